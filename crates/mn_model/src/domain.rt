@@ -1,0 +1,64 @@
+ghost use Rattle.std.specs.Prelude.{◌≡◌, ◌≤ℤ◌, length, ◌↔◌, IsTrue, int_lt};
+ghost use Rattle.std.specs.List.{find};
+ghost use Rattle.mn_model.specs.Domain.{Has, IsDomain, IsFirst, IsLast, IsValue, stretch};
+
+use super::Ints;
+use std::alloc::Global;
+use std::marker::Model;
+
+/// The values that a variable was declared with. Contracts see them as an ascending list.
+#[derive(Debug, Drop)]
+pub struct Domain {
+    lo: i64,
+    hi: i64,
+    /// The values that were written one by one. Empty for a stretch.
+    listed: Ints,
+}
+
+impl Model for Domain {
+    ghost use Rattle.std.specs.Prelude.{List, ℤ};
+    ghost use Rattle.mn_model.specs.Domain.{values_of, IsDomainFrom};
+
+    ghost Value = { List ℤ };
+
+    ghost view = { λ d. values_of d.lo d.hi d.listed };
+
+    ghost invariant = { λ d. IsDomainFrom d.lo d.hi (values_of d.lo d.hi d.listed) };
+}
+
+impl Domain {
+    /// All values from `lo` to `hi`.
+    pub fn stretch(alloc: Global, lo: i64, hi: i64) -> Domain
+        requires ordered { lo ≤ℤ hi }
+        requires low { IsValue lo }
+        requires high { IsValue hi }
+        ensures { result ≡ stretch lo hi }
+    {
+        Domain {
+            lo,
+            hi,
+            listed: Ints::new(alloc),
+        }
+    }
+
+    /// The least value.
+    pub fn lo(&self) -> i64
+        ensures { IsFirst result self.now }
+    {
+        self.lo
+    }
+
+    /// The greatest value.
+    pub fn hi(&self) -> i64
+        ensures { IsLast result self.now }
+    {
+        self.hi
+    }
+
+    /// What every domain keeps.
+    pub fn lawful(&self)
+        ensures { IsDomain self.now }
+    {
+        let _lo = self.lo;
+    }
+}
