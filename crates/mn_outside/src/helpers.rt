@@ -37,8 +37,14 @@ impl From<AllocError> for FetchFault {
     }
 }
 
-// Bytes that one call may bring.
-const CHUNK: u64 = 65536;
+// How many bytes one call may bring.
+const CHUNK: usize = 65536;
+
+fn empty_buffer(alloc: Global, size: usize) -> Result<Vec<u8>, AllocError>
+    ensures { IfOk result (λ buffer. vec_len buffer ≡ size) }
+{
+    vec![in alloc; 0u8; size]
+}
 
 /// The bytes of the named file, of at most so many.
 pub fn fetch_all<F: Files>(
@@ -60,12 +66,12 @@ pub fn fetch_all<F: Files>(
     ensures reading_kept { NoneFell (F.reading files.old) (F.reading files.new) }
     ensures writing_kept { NoneFell (F.writing files.old) (F.writing files.new) }
 {
-    let mut buffer = vec![in alloc; 0u8; CHUNK as usize]?;
+    let mut buffer = empty_buffer(alloc, CHUNK)?;
     let mut bytes = Vec::new(alloc);
     while bytes.len() as u64 <= limit {
-        let room = limit - bytes.len() as u64 + 1;
         let at = bytes.len() as u64;
-        let count = files.fetch(name, at, &mut buffer[..room.min(CHUNK) as usize])?;
+        let room = buffer.len().min((limit - at) as usize + 1);
+        let count = files.fetch(name, at, &mut buffer[..room])?;
         if count == 0 {
             return Ok(bytes);
         }
@@ -81,6 +87,7 @@ fn line_count(bytes: &[u8]) -> u64
 }
 
 /// Writes the whole piece.
+#[tactic(auto, using(crate::proofs::Adding::with_bytes_further))]
 pub fn put_all<O: Sink>(out: &mut O, piece: &[u8]) -> Result<(), Failed>
     ensures written { OnOk result (O.content out.new ≡ with_bytes (O.content out.old) piece.now) }
     ensures part { OnErr result (WritesPart (O.content out.old) (O.content out.new) piece.now) }
@@ -95,6 +102,7 @@ pub fn put_all<O: Sink>(out: &mut O, piece: &[u8]) -> Result<(), Failed>
 }
 
 /// Adds the whole piece at the end of the named file.
+#[tactic(auto, using(crate::proofs::Adding::with_file_bytes_further))]
 pub fn append_all<F: Files>(files: &mut F, name: &str, piece: &[u8]) -> Result<(), Failed>
     ensures appended { OnOk result
         (F.content files.new ≡ with_file_bytes (F.content files.old) name.now piece.now) }
