@@ -1,6 +1,7 @@
 -- What is added in several parts is added as a whole.
-use Rattle.std.proofs.Common.{◌≡◌, ℕ, ◌+◌, Bool, true, false, cond, List, [], ◌∷◌, ◌++◌, take, drop, refl, sym, ap, ◌∙◌, append_assoc, append-nil, arith}
+use Rattle.std.proofs.Common.{◌≡◌, ℕ, ◌+◌, Bool, true, false, cond, List, [], ◌∷◌, ◌++◌, length, take, drop, ◌-◌, refl, sym, ap, ◌∙◌, append_assoc, append-nil, arith}
 use Rattle.std.proofs.Math.Seq.{take-add}
+use Rattle.std.proofs.lemmas.List.{take_rest}
 use Rattle.std.specs.Prelude.{Option, None, Some, option_map, unwrap_or}
 use Rattle.std.specs.Ordering.{nat_cmp, eq_by_cmp}
 use Rattle.std.specs.Cmp.Lexicographic.{slice_cmp, nat_list_cmp_total}
@@ -45,10 +46,14 @@ with_file_bytes-with_file_bytes (Some files) name (x ∷ xs) (y ∷ ys) =
 
 -- a further write goes on where the first ones ended
 pub with_bytes_further : (told : Option (List ℕ)) (piece : List ℕ) (done n : ℕ)
-    → with_bytes (with_bytes told (take done piece)) (take n (drop done piece)) ≡ with_bytes told (take (done + n) piece)
-with_bytes_further told piece done n = with_bytes-with_bytes told _ _ ∙ ap (with_bytes told) (sym (take-add done n piece))
+    → with_bytes (with_bytes told (take done piece)) (take n (take (length piece - done) (drop done piece))) ≡ with_bytes told (take (done + n) piece)
+with_bytes_further told piece done n =
+    ap (λ rest. with_bytes (with_bytes told (take done piece)) (take n rest)) (take_rest piece done)
+    ∙ with_bytes-with_bytes told _ _ ∙ ap (with_bytes told) (sym (take-add done n piece))
 
 pub with_file_bytes_further : (told : Option FileMap) (name piece : List ℕ) (done n : ℕ)
-    → with_file_bytes (with_file_bytes told name (take done piece)) name (take n (drop done piece)) ≡ with_file_bytes told name (take (done + n) piece)
+    → with_file_bytes (with_file_bytes told name (take done piece)) name (take n (take (length piece - done) (drop done piece)))
+        ≡ with_file_bytes told name (take (done + n) piece)
 with_file_bytes_further told name piece done n =
-    with_file_bytes-with_file_bytes told name _ _ ∙ ap (with_file_bytes told name) (sym (take-add done n piece))
+    ap (λ rest. with_file_bytes (with_file_bytes told name (take done piece)) name (take n rest)) (take_rest piece done)
+    ∙ with_file_bytes-with_file_bytes told name _ _ ∙ ap (with_file_bytes told name) (sym (take-add done n piece))

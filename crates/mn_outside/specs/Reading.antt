@@ -14,6 +14,16 @@ abbrev pub FetchesFrom : Option FileMap → List ℕ → ℕ → ℕ → List �
 FetchesFrom told name at n old new =
     IfSome told (λ files. IsSomeAnd (file_at files name) (λ file. Fetches file at n old new))
 
+-- n bytes of the file that follow these ones were put behind them; there are none exactly where the file ends
+pub record Continues (file : List ℕ) (n : ℕ) (old new : List ℕ) : Type 0 where
+  pub added : new ≡ old ++ take n (drop (length old) file)
+  pub within : n ≤ length file - length old
+  pub end : (n ≡ 0) ↔ (length file ≤ length old)
+
+-- where content is told, the named file is there, and these bytes went on with it
+abbrev pub ContinuesFile : Option FileMap → List ℕ → ℕ → List ℕ → List ℕ → Type 0
+ContinuesFile told name n old new = IfSome told (λ files. IsSomeAnd (file_at files name) (λ file. Continues file n old new))
+
 -- where content is told, the named file is there and has these bytes
 abbrev pub IsFileAt : Option FileMap → List ℕ → List ℕ → Type 0
 IsFileAt told name bytes = IfSome told (λ files. IsSomeAnd (file_at files name) (λ file. bytes ≡ file))

@@ -1,9 +1,9 @@
 // Calls that repeat one call of the outside until the whole is done.
-ghost use Rattle.std.specs.Prelude.{◌≡◌, ℕ, ◌^◌, ◌<◌, ◌≤◌, length, vec_len, IfOk, OnOk, OnErr, IsErrOf};
+ghost use Rattle.std.specs.Prelude.{◌≡◌, ℕ, ◌+◌, ◌^◌, ◌<◌, ◌≤◌, length, vec_len, IfOk, OnOk, OnErr, IsErrOf};
 ghost use Rattle.mn_outside.specs.declared.helpers.FetchFault.TheVariants.{Failed, NoMemory};
 ghost use Rattle.mn_outside.specs.Faults.{HasRisen, NoneFell};
 ghost use Rattle.mn_outside.specs.Content.{AppendsPart, WritesPart, with_file_bytes, with_bytes};
-ghost use Rattle.mn_outside.specs.Reading.{IsFileAt, IsLongerFile, line_ends};
+ghost use Rattle.mn_outside.specs.Reading.{ContinuesFile, IsFileAt, IsLongerFile, line_ends};
 
 use crate::outside::{Failed, Files, Sink};
 use std::alloc::{AllocError, Global};
@@ -68,16 +68,41 @@ pub fn fetch_all<F: Files>(
 {
     let mut buffer = empty_buffer(alloc, CHUNK)?;
     let mut bytes = Vec::new(alloc);
-    while bytes.len() as u64 <= limit {
-        let at = bytes.len() as u64;
-        let room = buffer.len().min((limit - at) as usize + 1);
-        let count = files.fetch(name, at, &mut buffer[..room])?;
+    'reading: while bytes.len() as u64 <= limit {
+        let room = buffer.len().min((limit - bytes.len() as u64) as usize + 1);
+        let count = fetch_more(files, name, &mut buffer[..room], &mut bytes)?;
         if count == 0 {
             return Ok(bytes);
         }
-        bytes.extend_from_slice(&buffer[..count])?;
     }
     Err(FetchFault::TooLong(line_count(&bytes[..limit as usize])))
+}
+
+// Takes what comes next of the named file behind these bytes, by one call, and answers how much.
+fn fetch_more<F: Files>(
+    files: &mut F,
+    name: &str,
+    buffer: &mut [u8],
+    bytes: &mut Vec<u8>,
+) -> Result<usize, FetchFault>
+    requires room { 0 < length buffer.old }
+    requires offset { vec_len bytes.old < 2 ^ 63 }
+
+    ensures within { IfOk result (λ n. n ≤ length buffer.old) }
+    ensures len { IfOk result (λ n. vec_len bytes.new ≡ vec_len bytes.old + n) }
+    ensures more { IfOk result (λ n.
+        ContinuesFile (F.content files.old) name.now n bytes.old.items bytes.new.items) }
+    ensures same_content { F.content files.new ≡ F.content files.old }
+
+    ensures failed { IsErrOf result FetchFault.Failed
+        → HasRisen (F.reading files.old name.now) (F.reading files.new name.now) }
+    ensures too_long { (lines : ℕ) → IsErrOf result (FetchFault.TooLong lines) → ⊥ }
+    ensures reading_kept { NoneFell (F.reading files.old) (F.reading files.new) }
+    ensures writing_kept { NoneFell (F.writing files.old) (F.writing files.new) }
+{
+    let count = files.fetch(name, bytes.len() as u64, buffer)?;
+    bytes.extend_from_slice(&buffer[..count])?;
+    Ok(count)
 }
 
 fn line_count(bytes: &[u8]) -> u64
