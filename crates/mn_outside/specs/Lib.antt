@@ -1,3 +1,4 @@
 pub mod Faults
 pub mod Content
 pub mod Reading
+pub mod Memory

@@ -10,6 +10,7 @@
 #![tactic(auto)]
 
 mod helpers;
+mod named;
 mod outside;
 
 pub use helpers::{FetchFault, append_all, fetch_all, put_all};
