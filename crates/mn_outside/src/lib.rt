@@ -9,9 +9,12 @@
 //! It stands on std, and on `thiserror` for the texts of `FetchFault`.
 #![tactic(auto)]
 
+mod calls;
 mod helpers;
+mod mem_sink;
 mod named;
 mod outside;
 
 pub use helpers::{FetchFault, append_all, fetch_all, put_all};
+pub use mem_sink::MemSink;
 pub use outside::{Failed, Files, Sink};
