@@ -1,9 +1,10 @@
 -- Files and a sink that are kept in memory, as contracts see them.
-use Rattle.std.specs.Prelude.{◌≡◌, ℕ, ◌+◌, ◌-◌, min, Bool, if◌then◌else◌, ◌==◌, List, [], ◌++◌, map, length, take, drop, Contains, string_bytes, String, Vec}
+use Rattle.std.specs.Prelude.{◌≡◌, ℕ, ◌+◌, ◌-◌, min, Bool, if◌then◌else◌, ◌==◌, List, [], ◌++◌, map, length, take, drop, Contains, string_bytes, String, Vec, refl}
 use Rattle.std.specs.declared.alloc.Global.{Global}
 use Rattle.std.specs.BTreeMap.{BTreeMap}
 use Rattle.std.specs.List.{list_any}
-use Rattle.std.specs.FinMap.{empty, insert, from_entries}
+use Rattle.std.specs.FinMap.{empty, insert, from_entries, code as map_code}
+use Rattle.std.specs.Coded.{Coded, code_by, coded×, coded_ℕ, coded_list}
 use Rattle.mn_outside.specs.Faults.{greatest_count}
 use Rattle.mn_outside.specs.Content.{FileMap, bytes_at}
 
@@ -32,6 +33,22 @@ pub record FilesInMemory : Type 0 where
   pub unwritten : ℕ
   -- how many calls failed for want of memory
   pub lacked : ℕ
+
+-- files in memory are stored as the tuple of their parts
+abbrev pub files_code : Coded FilesInMemory
+files_code =
+    code_by (List ℕ × (ℕ × (FileMap × (ℕ × (ℕ × ℕ)))))
+        (coded× (coded_list coded_ℕ) (coded× coded_ℕ (coded× (map_code (coded_list coded_ℕ) (coded_list coded_ℕ)) (coded× coded_ℕ (coded× coded_ℕ coded_ℕ)))))
+        (λ memory. (memory.failing, (memory.calls, (memory.files, (memory.unread, (memory.unwritten, memory.lacked))))))
+        (λ parts. record {
+          failing = parts.0;
+          calls = parts.1.0;
+          files = parts.1.1.0;
+          unread = parts.1.1.1.0;
+          unwritten = parts.1.1.1.1.0;
+          lacked = parts.1.1.1.1.1
+        })
+        (λ _. refl)
 
 -- no file yet, and no call
 abbrev pub new_files : List ℕ → FilesInMemory

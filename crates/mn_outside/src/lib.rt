@@ -11,10 +11,12 @@
 
 mod calls;
 mod helpers;
+mod mem_files;
 mod mem_sink;
 mod named;
 mod outside;
 
 pub use helpers::{FetchFault, append_all, fetch_all, put_all};
+pub use mem_files::MemFiles;
 pub use mem_sink::MemSink;
 pub use outside::{Failed, Files, Sink};
