@@ -1,6 +1,5 @@
 -- Counts of faults. A count never falls, and stands still at its greatest value.
 use Rattle.std.specs.Prelude.{ℕ, ◌<◌, ◌≤◌, List}
-use Rattle.std.proofs.Common.{arith}
 
 -- where a count of faults stands still: the greatest number of 64 bits
 abbrev pub greatest_count : ℕ
@@ -13,13 +12,3 @@ HasRisen before after = after < greatest_count → before < after
 -- Of the counts that each name has, none fell.
 abbrev pub NoneFell : (List ℕ → ℕ) → (List ℕ → ℕ) → Type 0
 NoneFell before after = (name : List ℕ) → before name ≤ after name
-
--- What rose in the last part of a run rose in the run.
-pub HasRisen-before : (before middle after : ℕ) → before ≤ middle → HasRisen middle after → HasRisen before after
-HasRisen-before before middle after kept risen = λ below. let later : middle < after = risen below in omega arith
-
--- What rose in the first part of a run rose in the run.
-pub HasRisen-after : (before middle after : ℕ) → HasRisen before middle → middle ≤ after → HasRisen before after
-HasRisen-after before middle after risen kept = λ below.
-    let earlier : middle < greatest_count = omega arith in
-    let later : before < middle = risen earlier in omega arith

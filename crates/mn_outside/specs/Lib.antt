@@ -2,3 +2,4 @@ pub mod Faults
 pub mod Content
 pub mod Reading
 pub mod Memory
+pub mod Laws

@@ -15,8 +15,10 @@ mod mem_files;
 mod mem_sink;
 mod named;
 mod outside;
+mod real;
 
 pub use helpers::{FetchFault, append_all, fetch_all, put_all};
 pub use mem_files::MemFiles;
 pub use mem_sink::MemSink;
 pub use outside::{Failed, Files, Sink};
+pub use real::{DiskFiles, StdSink};
