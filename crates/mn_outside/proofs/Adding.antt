@@ -14,7 +14,7 @@ with_bytes_further told piece done n =
 
 pub with_file_bytes_further : (told : Option FileMap) (name piece : List ℕ) (done n : ℕ)
     → with_file_bytes (with_file_bytes told name (take done piece)) name (take n (take (length piece - done) (drop done piece)))
-        ≡ with_file_bytes told name (take (done + n) piece)
+    ≡ with_file_bytes told name (take (done + n) piece)
 with_file_bytes_further told name piece done n =
     ap (λ rest. with_file_bytes (with_file_bytes told name (take done piece)) name (take n rest)) (take_rest piece done)
     ∙ with_file_bytes-with_file_bytes told name _ _ ∙ ap (with_file_bytes told name) (sym (take-add done n piece))

@@ -21,7 +21,7 @@ option_map-cond f false x y = refl
 -- a scan for a name finds the bytes that the look-up in the tree does
 find-entries : (entries : List (String Global × Vec ℕ Global)) (name : List ℕ)
     → find (slice_cmp nat_cmp) name (map (λ entry. (string_bytes entry.0, entry.1.items)) entries)
-        ≡ option_map (λ bytes. bytes.items) (lookup (is_at (λ key. slice_cmp nat_cmp name (string_bytes key))) entries)
+    ≡ option_map (λ bytes. bytes.items) (lookup (is_at (λ key. slice_cmp nat_cmp name (string_bytes key))) entries)
 find-entries [] name = refl
 find-entries (entry ∷ entries) name =
     ap (cond (is_eq (slice_cmp nat_cmp name (string_bytes entry.0))) (Some entry.1.items)) (find-entries entries name)
@@ -41,12 +41,12 @@ pub file_map_updated : (old new : BTreeMap (String Global) (Vec ℕ Global)) (na
     → file_map new ≡ insert (file_map old) name bytes.items
 file_map_updated old new name bytes updates =
     same_map nat_list_cmp_total (slice_cmp-IsAntisymmetric nat_cmp-IsAntisymmetric) _ _ (λ other.
-        file_at-file_map new other
-        ∙ ap (option_map (λ b. b.items)) (btree_map_updates_text name old new (Some bytes) updates other)
-        ∙ option_map-cond (λ b. b.items) (bytes_eq name other) (Some bytes) (get_by_text old other)
-        ∙ ap (λ b. cond b (Some bytes.items) (option_map (λ b. b.items) (get_by_text old other))) (eq_by_cmp-turned name other)
-        ∙ ap (cond (eq_by_cmp (slice_cmp nat_cmp) other name) (Some bytes.items)) (sym (file_at-file_map old other))
-        ∙ sym (get-insert nat_list_cmp_total (file_map old) name bytes.items other))
+    file_at-file_map new other
+    ∙ ap (option_map (λ b. b.items)) (btree_map_updates_text name old new (Some bytes) updates other)
+    ∙ option_map-cond (λ b. b.items) (bytes_eq name other) (Some bytes) (get_by_text old other)
+    ∙ ap (λ b. cond b (Some bytes.items) (option_map (λ b. b.items) (get_by_text old other))) (eq_by_cmp-turned name other)
+    ∙ ap (cond (eq_by_cmp (slice_cmp nat_cmp) other name) (Some bytes.items)) (sym (file_at-file_map old other))
+    ∙ sym (get-insert nat_list_cmp_total (file_map old) name bytes.items other))
 
 equal_from_is_eq : (order : Ordering) → is_eq order ≡ true → order ≡ Equal
 equal_from_is_eq Less is = cc
@@ -57,7 +57,7 @@ equal_from_is_eq Greater is = cc
 pub insert_same : (files : FileMap) (name bytes : List ℕ) → file_at files name ≡ Some bytes → insert files name bytes ≡ files
 insert_same files name bytes has =
     same_map nat_list_cmp_total (slice_cmp-IsAntisymmetric nat_cmp-IsAntisymmetric) _ _ (λ other.
-        get-insert nat_list_cmp_total files name bytes other ∙ by_test other (eq_by_cmp (slice_cmp nat_cmp) other name) refl)
+    get-insert nat_list_cmp_total files name bytes other ∙ by_test other (eq_by_cmp (slice_cmp nat_cmp) other name) refl)
   where
     by_test : (other : List ℕ) (same : Bool) → eq_by_cmp (slice_cmp nat_cmp) other name ≡ same → cond same (Some bytes) (get files other) ≡ get files other
     by_test other true is = sym has ∙ get_tied nat_list_cmp_total files other name (equal_from_is_eq _ is)

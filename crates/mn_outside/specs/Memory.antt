@@ -38,17 +38,17 @@ pub record FilesInMemory : Type 0 where
 abbrev pub files_code : Coded FilesInMemory
 files_code =
     code_by (List ℕ × (ℕ × (FileMap × (ℕ × (ℕ × ℕ)))))
-        (coded× (coded_list coded_ℕ) (coded× coded_ℕ (coded× (map_code (coded_list coded_ℕ) (coded_list coded_ℕ)) (coded× coded_ℕ (coded× coded_ℕ coded_ℕ)))))
-        (λ memory. (memory.failing, (memory.calls, (memory.files, (memory.unread, (memory.unwritten, memory.lacked))))))
-        (λ parts. record {
-          failing = parts.0;
-          calls = parts.1.0;
-          files = parts.1.1.0;
-          unread = parts.1.1.1.0;
-          unwritten = parts.1.1.1.1.0;
-          lacked = parts.1.1.1.1.1
-        })
-        (λ _. refl)
+    (coded× (coded_list coded_ℕ) (coded× coded_ℕ (coded× (map_code (coded_list coded_ℕ) (coded_list coded_ℕ)) (coded× coded_ℕ (coded× coded_ℕ coded_ℕ)))))
+    (λ memory. (memory.failing, (memory.calls, (memory.files, (memory.unread, (memory.unwritten, memory.lacked))))))
+    (λ parts. record {
+      failing = parts.0;
+      calls = parts.1.0;
+      files = parts.1.1.0;
+      unread = parts.1.1.1.0;
+      unwritten = parts.1.1.1.1.0;
+      lacked = parts.1.1.1.1.1;
+    })
+    (λ _. refl)
 
 -- no file yet, and no call
 abbrev pub new_files : List ℕ → FilesInMemory
@@ -75,7 +75,7 @@ abbrev pub after_failed_change : FilesInMemory → FilesInMemory
 after_failed_change memory = record memory {
   calls = one_more memory.calls;
   unwritten = one_more memory.unwritten;
-  lacked = if files_fail_next memory then memory.lacked else one_more memory.lacked
+  lacked = if files_fail_next memory then memory.lacked else one_more memory.lacked;
 }
 
 -- a sink in memory
@@ -107,7 +107,7 @@ abbrev pub after_failed_write : SinkInMemory → SinkInMemory
 after_failed_write memory = record memory {
   calls = one_more memory.calls;
   unwritten = one_more memory.unwritten;
-  lacked = if sink_fails_next memory then memory.lacked else one_more memory.lacked
+  lacked = if sink_fails_next memory then memory.lacked else one_more memory.lacked;
 }
 
 -- a `flush` was answered

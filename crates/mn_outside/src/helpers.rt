@@ -59,6 +59,7 @@ pub fn fetch_all<F: Files>(
     ensures whole { IfOk result (λ bytes. IsFileAt (F.content files.old) name.now bytes.items) }
     ensures too_long { (lines : ℕ) → IsErrOf result (FetchFault.TooLong lines)
         → IsLongerFile (F.content files.old) name.now limit lines }
+    ensures lines { (lines : ℕ) → IsErrOf result (FetchFault.TooLong lines) → lines ≤ limit }
     ensures same_content { F.content files.new ≡ F.content files.old }
 
     ensures failed { IsErrOf result FetchFault.Failed
@@ -106,7 +107,8 @@ fn fetch_more<F: Files>(
 }
 
 fn line_count(bytes: &[u8]) -> u64
-    ensures { result ≡ line_ends bytes.now }
+    ensures count { result ≡ line_ends bytes.now }
+    ensures within { result ≤ length bytes.now }
 {
     bytes.iter().filter(|byte| **byte == b'\n').count() as u64
 }

@@ -22,3 +22,6 @@ pub use mem_files::MemFiles;
 pub use mem_sink::MemSink;
 pub use outside::{Failed, Files, Sink};
 pub use real::{DiskFiles, StdSink};
+
+#[cfg(test)]
+mod tests;

@@ -33,12 +33,12 @@ impl Model for MemFiles {
     ghost coded = { files_code };
 
     ghost view = { λ memory. record {
-        failing = memory.calls.failing.items;
-        calls = memory.calls.made;
-        files = file_map memory.files;
-        unread = memory.unread;
-        unwritten = memory.unwritten;
-        lacked = memory.lacked
+      failing = memory.calls.failing.items;
+      calls = memory.calls.made;
+      files = file_map memory.files;
+      unread = memory.unread;
+      unwritten = memory.unwritten;
+      lacked = memory.lacked;
     } };
 }
 

@@ -24,11 +24,11 @@ impl Model for MemSink {
     ghost Value = { SinkInMemory };
 
     ghost view = { λ sink. record {
-        failing = sink.calls.failing.items;
-        calls = sink.calls.made;
-        bytes = sink.bytes.items;
-        unwritten = sink.unwritten;
-        lacked = sink.lacked
+      failing = sink.calls.failing.items;
+      calls = sink.calls.made;
+      bytes = sink.bytes.items;
+      unwritten = sink.unwritten;
+      lacked = sink.lacked;
     } };
 }
 

@@ -12,4 +12,5 @@ loop-done-preserved g c = (
         ∙ with_file_bytes_further _ c.args.name.now c.args.piece.now c.loop-done.done c.in_ok-done.field-0;
   },
   (λ name. omega (arith, c.in_ok-done.ensures.reading_kept name, c.loop-done.invariant.1 name)),
-  (λ name. omega (arith, c.in_ok-done.ensures.writing_kept name, c.loop-done.invariant.2 name)))
+  (λ name. omega (arith, c.in_ok-done.ensures.writing_kept name, c.loop-done.invariant.2 name)),
+)
