@@ -36,7 +36,7 @@ fn a_failing_sink_keeps_what_was_written(rt: HostRuntime) -> Result<(), Fail> {
 }
 
 // So many bytes, of which each hundredth ends a line.
-fn lines(alloc: Global, size: u64) -> Result<Vec<u8>, AllocError> {
+fn lines(alloc: Global, size: u32) -> Result<Vec<u8>, AllocError> {
     let mut bytes = Vec::new(alloc);
     for i in 0..size {
         bytes.push(if i % 100 == 99 { b'\n' } else { b'a' })?;
@@ -47,7 +47,7 @@ fn lines(alloc: Global, size: u64) -> Result<Vec<u8>, AllocError> {
 #[test]
 fn a_file_is_fetched_up_to_its_limit(rt: HostRuntime) -> Result<(), Fail> {
     for (size, limit, want) in [
-        (0, 0, Ok(())),
+        (0u32, 0u32, Ok(())),
         (1, 0, Err(FetchFault::TooLong(0))),
         (250, 250, Ok(())),
         (250, 249, Err(FetchFault::TooLong(2))),
@@ -62,7 +62,7 @@ fn a_file_is_fetched_up_to_its_limit(rt: HostRuntime) -> Result<(), Fail> {
         let bytes = lines(rt.alloc(), size)?;
         let mut files = mem_files(rt.alloc(), &[])?;
         files.put("model", &bytes)?;
-        match fetch_all(rt.alloc(), &mut files, "model", limit) {
+        match fetch_all(rt.alloc(), &mut files, "model", u64::from(limit)) {
             Ok(fetched) => {
                 assert_eq!(rt; want, Ok(()), "{size} within {limit}");
                 assert!(rt; fetched == bytes, "{size} within {limit}");
@@ -103,6 +103,13 @@ fn replace<F: Files>(files: &mut F, name: &str) -> Result<(), Failed> {
     append_all(files, name, b"text")
 }
 
+fn holds(files: &MemFiles, name: &str, text: &str) -> bool {
+    match files.content(name) {
+        Some(bytes) => bytes == text.as_bytes(),
+        None => false,
+    }
+}
+
 #[test]
 fn a_failing_change_changes_nothing(rt: HostRuntime) -> Result<(), Fail> {
     for (failing, succeeds, held) in [
@@ -115,9 +122,9 @@ fn a_failing_change_changes_nothing(rt: HostRuntime) -> Result<(), Fail> {
         files.put("a", b"old")?;
         files.put("b", b"other")?;
         assert_eq!(rt; replace(&mut files, "a").is_ok(), succeeds, "at {failing}");
-        assert_eq!(rt; files.content("a"), Some(held.as_bytes()), "at {failing}");
-        assert_eq!(rt; files.content("b"), Some(b"other".as_slice()));
-        assert_eq!(rt; files.content("c").is_none(), true);
+        assert!(rt; holds(&files, "a", held), "at {failing}");
+        assert!(rt; holds(&files, "b", "other"), "at {failing}");
+        assert!(rt; !holds(&files, "c", ""), "at {failing}");
     }
     Ok(())
 }
