@@ -1,7 +1,6 @@
 -- What the loops of the helpers keep.
 use Rattle.std.proofs.Common.{◌≡◌, ℕ, ◌+◌, ◌≤◌, List, length, take}
 use Rattle.std.specs.Prelude.{Option, IfSome}
-use Rattle.mn_outside.specs.Faults.{NoneFell}
 use Rattle.mn_outside.specs.Content.{FileMap, with_bytes, with_file_bytes, bytes_at}
 
 -- n bytes of the piece are written

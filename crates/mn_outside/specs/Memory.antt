@@ -1,12 +1,12 @@
 -- Files and a sink that are kept in memory, as contracts see them.
-use Rattle.std.specs.Prelude.{◌≡◌, ℕ, ◌+◌, ◌-◌, min, Bool, if◌then◌else◌, ◌==◌, List, [], ◌++◌, map, length, take, drop, Contains, string_bytes, String, Vec, refl}
+use Rattle.std.specs.Prelude.{ℕ, ◌+◌, min, Bool, if◌then◌else◌, ◌==◌, List, [], ◌++◌, map, string_bytes, String, Vec, refl}
 use Rattle.std.specs.declared.alloc.Global.{Global}
 use Rattle.std.specs.BTreeMap.{BTreeMap}
 use Rattle.std.specs.List.{list_any}
 use Rattle.std.specs.FinMap.{empty, insert, from_entries, code as map_code}
 use Rattle.std.specs.Coded.{Coded, code_by, coded×, coded_ℕ, coded_list}
 use Rattle.mn_outside.specs.Faults.{greatest_count}
-use Rattle.mn_outside.specs.Content.{FileMap, bytes_at}
+use Rattle.mn_outside.specs.Content.{FileMap}
 
 -- one more, up to where a count stands still
 abbrev pub one_more : ℕ → ℕ

@@ -123,10 +123,10 @@ impl Files for MemFiles {
         ensures ok { OnOk result (self.new ≡ after_fetch self.old) }
         ensures err { OnErr result (self.new ≡ after_failed_fetch self.old) }
     {
-        if !self.calls.next_fails() {
-            if let Some(bytes) = bytes_of(&self.files, name) {
-                return Ok(copy_from(bytes, at, into));
-            }
+        if !self.calls.next_fails()
+            && let Some(bytes) = bytes_of(&self.files, name)
+        {
+            return Ok(copy_from(bytes, at, into));
         }
         self.unread = self.unread.saturating_add(1);
         Err(Failed)

@@ -1,4 +1,4 @@
-use Rattle.std.proofs.Common.{◌≡◌, ◌<◌, ◌+◌, ◌-◌, length, vec_len}
+use Rattle.std.proofs.Common.{◌≡◌, ◌<◌, ◌+◌, ◌-◌, vec_len}
 use Rattle.mn_outside.specs.Faults.{NoneFell}
 use Rattle.mn_outside.proofs.Progress.{IsFront}
 use Rattle.mn_outside.proofs.helpers.fetch_all.Given as goal
