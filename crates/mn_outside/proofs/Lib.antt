@@ -1,0 +1,3 @@
+pub mod Progress
+pub mod Adding
+pub mod Trees

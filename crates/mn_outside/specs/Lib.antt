@@ -1,0 +1,5 @@
+pub mod Faults
+pub mod Content
+pub mod Reading
+pub mod Memory
+pub mod Laws
