@@ -1,9 +1,9 @@
 -- A stretch of numbers is a domain between its two ends.
-use Rattle.std.proofs.Common.{◌≡◌, ℕ, zero, suc, ◌-◌, ◌<◌, ℤ, pos, negsuc, ◌+ℤ◌, ◌<ℤ◌, ◌≤ℤ◌, neg_ℤ, length, slice_get, Some, refl, ap, ◌∙◌, arith}
+use Rattle.std.proofs.Common.{◌≡◌, ℕ, zero, suc, ◌-◌, ◌<◌, ℤ, pos, ◌-ℤ◌, negsuc, ◌+ℤ◌, ◌<ℤ◌, ◌≤ℤ◌, neg_ℤ, List, [], ◌∷◌, length, slice_get, Some, refl, sym, ap, subst, ◌∙◌, arith}
 use Rattle.std.proofs.lemmas.Int.{ints}
 use Rattle.std.specs.Int.{int_gap}
 use Rattle.std.specs.List.{AllByRecursion}
-use Rattle.mn_model.specs.Domain.{numbers_from, stretch, IsValue, Ascends, IsDomain, IsDomainFrom}
+use Rattle.mn_model.specs.Domain.{numbers_from, stretch, values_of, IsValue, Ascends, IsDomain, IsDomainFrom}
 use Rattle.mn_model.specs.declared.limits.TheConstants.{VALUE}
 
 pub length-numbers_from : (lo : ℤ) (n : ℕ) → length (numbers_from lo n) ≡ n
@@ -51,7 +51,46 @@ IsDomain-stretch lo hi ordered low high = record {
 pub IsDomainFrom-stretch : (lo hi : ℤ) → lo ≤ℤ hi → IsValue lo → IsValue hi → IsDomainFrom lo hi (stretch lo hi)
 unfolding stretch
 IsDomainFrom-stretch lo hi ordered low high = record {
+  ordered = ordered;
+  low = low;
+  high = high;
   domain = IsDomain-stretch lo hi ordered low high;
   first = slice_get-numbers_from lo (suc (int_gap lo hi)) 0 (omega arith) ∙ ap Some (omega (arith, ints));
   last = rw (length-numbers_from lo (suc (int_gap lo hi))) (rw (slice_get-numbers_from lo (suc (int_gap lo hi)) (suc (int_gap lo hi) - 1) (omega arith)) (ap Some (omega (arith, ints, plus-int_gap lo hi ordered))));
 }
+
+pub length-stretch : (lo hi : ℤ) → lo ≤ℤ hi → pos (length (stretch lo hi)) ≡ hi -ℤ lo +ℤ pos 1
+unfolding stretch
+length-stretch lo hi ordered = ap pos (length-numbers_from lo (suc (int_gap lo hi))) ∙ omega (arith, ints, plus-int_gap lo hi ordered)
+
+pub slice_get-stretch : (lo hi : ℤ) (i : ℕ) → i < length (stretch lo hi) → slice_get (stretch lo hi) i ≡ Some (lo +ℤ pos i)
+unfolding stretch
+slice_get-stretch lo hi i within = slice_get-numbers_from lo (suc (int_gap lo hi)) i (omega (arith, length-numbers_from lo (suc (int_gap lo hi))))
+
+-- what is listed is nothing: the values are those of the stretch
+pub values_of-none : (lo hi : ℤ) (listed : List ℤ) → listed ≡ [] → values_of lo hi listed ≡ stretch lo hi
+values_of-none lo hi [] none = refl
+values_of-none lo hi (value ∷ others) none = cc
+
+-- what is listed is something: it is the values
+pub values_of-some : (lo hi : ℤ) (listed : List ℤ) → (listed ≡ [] → ⊥) → values_of lo hi listed ≡ listed
+values_of-some lo hi [] some = absurd (some refl)
+values_of-some lo hi (value ∷ others) some = refl
+
+-- a domain whose values are those of the stretch
+pub domain_is_stretch : (lo hi : ℤ) (listed values : List ℤ) → listed ≡ [] → values_of lo hi listed ≡ values → values ≡ stretch lo hi
+domain_is_stretch lo hi listed values none is = sym is ∙ values_of-none lo hi listed none
+
+-- the value at a place of such a domain
+pub record StretchedTo (lo hi : ℤ) (values : List ℤ) (i : ℕ) : Type 0 where
+  pub value : slice_get values i ≡ Some (lo +ℤ pos i)
+  pub bound : (lo +ℤ pos i) ≤ℤ hi
+
+pub stretched_to : (lo hi : ℤ) (listed values : List ℤ) (i : ℕ) → lo ≤ℤ hi → listed ≡ [] → values_of lo hi listed ≡ values → i < length values → StretchedTo lo hi values i
+stretched_to lo hi listed values i ordered none is within =
+    let same = domain_is_stretch lo hi listed values none is in
+    let inside : i < length (stretch lo hi) = subst (λ vs. i < length vs) same within in
+    record {
+      value = ap (λ vs. slice_get vs i) same ∙ slice_get-stretch lo hi i inside;
+      bound = omega (arith, ints, length-stretch lo hi ordered);
+    }

@@ -47,6 +47,9 @@ IsLast a values = slice_get values (length values - 1) ≡ Some a
 
 -- a domain with its two ends
 pub record IsDomainFrom (lo hi : ℤ) (values : List ℤ) : Type 0 where
+  pub ordered : lo ≤ℤ hi
+  pub low : IsValue lo
+  pub high : IsValue hi
   pub domain : IsDomain values
   pub first : IsFirst lo values
   pub last : IsLast hi values

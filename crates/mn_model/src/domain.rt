@@ -1,6 +1,5 @@
-ghost use Rattle.std.specs.Prelude.{◌≡◌, ◌≤ℤ◌, length, ◌↔◌, IsTrue, int_lt};
-ghost use Rattle.std.specs.List.{find};
-ghost use Rattle.mn_model.specs.Domain.{Has, IsDomain, IsFirst, IsLast, IsValue, stretch};
+ghost use Rattle.std.specs.Prelude.{◌≡◌, ◌<◌, ◌≤ℤ◌, length, slice_get, Some};
+ghost use Rattle.mn_model.specs.Domain.{IsDomain, IsFirst, IsLast, IsValue, stretch};
 
 use super::Ints;
 use std::alloc::Global;
@@ -53,6 +52,29 @@ impl Domain {
         ensures { IsLast result self.now }
     {
         self.hi
+    }
+
+    /// How many values there are.
+    pub fn size(&self) -> u64
+        ensures { result ≡ length self.now }
+    {
+        if self.listed.is_empty() {
+            self.hi.abs_diff(self.lo) + 1
+        } else {
+            self.listed.len() as u64
+        }
+    }
+
+    /// The value at place `i` of the ascending values, counted from 0.
+    pub fn nth(&self, i: u64) -> i64
+        requires { i < length self.now }
+        ensures { slice_get self.now i ≡ Some result }
+    {
+        if self.listed.is_empty() {
+            self.lo + i as i64
+        } else {
+            *self.listed.get(i as usize)
+        }
     }
 
     /// What every domain keeps.

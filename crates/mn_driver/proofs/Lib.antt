@@ -1,0 +1,5 @@
+pub mod Checked
+pub mod Turning
+pub mod Carrying
+pub mod Choices
+pub mod Solving

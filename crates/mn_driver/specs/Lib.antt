@@ -1,0 +1,5 @@
+pub mod Ahead
+pub mod Report
+pub mod Within
+pub mod Standing
+pub mod Written
