@@ -114,6 +114,7 @@ fn line_count(bytes: &[u8]) -> u64
 }
 
 /// Writes the whole piece.
+#[tactic(auto, using(crate::proofs::Adding::with_bytes_further))]
 pub fn put_all<O: Sink>(out: &mut O, piece: &[u8]) -> Result<(), Failed>
     ensures written { OnOk result (O.content out.new ≡ with_bytes (O.content out.old) piece.now) }
     ensures part { OnErr result (WritesPart (O.content out.old) (O.content out.new) piece.now) }
@@ -128,6 +129,7 @@ pub fn put_all<O: Sink>(out: &mut O, piece: &[u8]) -> Result<(), Failed>
 }
 
 /// Adds the whole piece at the end of the named file.
+#[tactic(auto, using(crate::proofs::Adding::with_file_bytes_further))]
 pub fn append_all<F: Files>(files: &mut F, name: &str, piece: &[u8]) -> Result<(), Failed>
     ensures appended { OnOk result
         (F.content files.new ≡ with_file_bytes (F.content files.old) name.now piece.now) }
