@@ -1,9 +1,10 @@
 // Calls that repeat one call of the outside until the whole is done.
-ghost use Rattle.std.specs.Prelude.{◌≡◌, ℕ, ◌+◌, ◌^◌, ◌<◌, ◌≤◌, length, vec_len, IfOk, OnOk, OnErr, IsErrOf};
+ghost use Rattle.std.specs.Prelude.{◌≡◌, ℕ, ◌+◌, ◌^◌, ◌<◌, ◌≤◌, length, vec_len, IfOk, IfErr, OnOk, OnErr, IsErrOf};
 ghost use Rattle.mn_outside.specs.declared.helpers.FetchFault.TheVariants.{Failed, NoMemory};
 ghost use Rattle.mn_outside.specs.Faults.{HasRisen, NoneFell};
 ghost use Rattle.mn_outside.specs.Content.{AppendsPart, WritesPart, with_file_bytes, with_bytes};
-ghost use Rattle.mn_outside.specs.Reading.{ContinuesFile, IsFileAt, IsLongerFile, line_ends};
+ghost use Rattle.mn_outside.specs.Reading.{ContinuesFile, IsFileAt, line_ends};
+ghost use Rattle.mn_outside.specs.Fault.{TellsLength};
 
 use crate::outside::{Failed, Files, Sink};
 use std::alloc::{AllocError, Global};
@@ -57,9 +58,7 @@ pub fn fetch_all<F: Files>(
 
     ensures within { IfOk result (λ bytes. vec_len bytes ≤ limit) }
     ensures whole { IfOk result (λ bytes. IsFileAt (F.content files.old) name.now bytes.items) }
-    ensures too_long { (lines : ℕ) → IsErrOf result (FetchFault.TooLong lines)
-        → IsLongerFile (F.content files.old) name.now limit lines }
-    ensures lines { (lines : ℕ) → IsErrOf result (FetchFault.TooLong lines) → lines ≤ limit }
+    ensures too_long { IfErr result (TellsLength (F.content files.old) name.now limit) }
     ensures same_content { F.content files.new ≡ F.content files.old }
 
     ensures failed { IsErrOf result FetchFault.Failed
