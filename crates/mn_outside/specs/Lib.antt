@@ -3,3 +3,4 @@ pub mod Content
 pub mod Reading
 pub mod Memory
 pub mod Laws
+pub mod Fault

@@ -1,9 +1,10 @@
 // Calls that repeat one call of the outside until the whole is done.
-ghost use Rattle.std.specs.Prelude.{◌≡◌, ℕ, ◌+◌, ◌^◌, ◌<◌, ◌≤◌, length, vec_len, IfOk, OnOk, OnErr, IsErrOf};
+ghost use Rattle.std.specs.Prelude.{◌≡◌, ℕ, ◌+◌, ◌^◌, ◌<◌, ◌≤◌, length, vec_len, IfOk, IfErr, OnOk, OnErr, IsErrOf};
 ghost use Rattle.mn_outside.specs.declared.helpers.FetchFault.TheVariants.{Failed, NoMemory};
 ghost use Rattle.mn_outside.specs.Faults.{HasRisen, NoneFell};
 ghost use Rattle.mn_outside.specs.Content.{AppendsPart, WritesPart, with_file_bytes, with_bytes};
-ghost use Rattle.mn_outside.specs.Reading.{ContinuesFile, IsFileAt, IsLongerFile, line_ends};
+ghost use Rattle.mn_outside.specs.Reading.{ContinuesFile, IsFileAt, line_ends};
+ghost use Rattle.mn_outside.specs.Fault.{TellsLength};
 
 use crate::outside::{Failed, Files, Sink};
 use std::alloc::{AllocError, Global};
@@ -57,9 +58,7 @@ pub fn fetch_all<F: Files>(
 
     ensures within { IfOk result (λ bytes. vec_len bytes ≤ limit) }
     ensures whole { IfOk result (λ bytes. IsFileAt (F.content files.old) name.now bytes.items) }
-    ensures too_long { (lines : ℕ) → IsErrOf result (FetchFault.TooLong lines)
-        → IsLongerFile (F.content files.old) name.now limit lines }
-    ensures lines { (lines : ℕ) → IsErrOf result (FetchFault.TooLong lines) → lines ≤ limit }
+    ensures too_long { IfErr result (TellsLength (F.content files.old) name.now limit) }
     ensures same_content { F.content files.new ≡ F.content files.old }
 
     ensures failed { IsErrOf result FetchFault.Failed
@@ -114,6 +113,7 @@ fn line_count(bytes: &[u8]) -> u64
 }
 
 /// Writes the whole piece.
+#[tactic(auto, using(crate::proofs::Adding::with_bytes_further))]
 pub fn put_all<O: Sink>(out: &mut O, piece: &[u8]) -> Result<(), Failed>
     ensures written { OnOk result (O.content out.new ≡ with_bytes (O.content out.old) piece.now) }
     ensures part { OnErr result (WritesPart (O.content out.old) (O.content out.new) piece.now) }
@@ -128,6 +128,7 @@ pub fn put_all<O: Sink>(out: &mut O, piece: &[u8]) -> Result<(), Failed>
 }
 
 /// Adds the whole piece at the end of the named file.
+#[tactic(auto, using(crate::proofs::Adding::with_file_bytes_further))]
 pub fn append_all<F: Files>(files: &mut F, name: &str, piece: &[u8]) -> Result<(), Failed>
     ensures appended { OnOk result
         (F.content files.new ≡ with_file_bytes (F.content files.old) name.now piece.now) }
