@@ -1,5 +1,9 @@
 pub mod Ahead
+pub mod Codes
 pub mod Report
-pub mod Within
+pub mod Runs
 pub mod Standing
+pub mod Stops
+pub mod Within
+pub mod Words
 pub mod Written
