@@ -5,6 +5,8 @@ ghost use Rattle.std.specs.Prelude.{◌≡◌, ◌<◌, ◌≤◌, ◌⊎◌, �
 ghost use Rattle.mn_model.specs.Problem.{Problem};
 ghost use Rattle.mn_reader.specs.Reads.{Reads};
 
+mod line;
+
 use mn_model::{Instance, Refusal, TEXT_BYTES, Which};
 use std::alloc::Global;
 
