@@ -1,14 +1,31 @@
-ghost use Rattle.std.specs.Prelude.{◌≡◌, ◌++◌, ◌∷◌, ◌↔◌, ◌⊎◌, List, ℕ, false, IfNone, IfSome, MatchOption, codes};
+ghost use Rattle.std.specs.Prelude.{◌≡◌, ℕ, ◌+◌, false, List, ◌∷◌, ◌++◌, ◌==◌, length, position, IfNone, IfSome, MatchOption};
 ghost use Rattle.mn_model.specs.Name.{continues_name, IsName};
+ghost use Rattle.mn_reader.specs.Left.{Lacks};
 
 use mn_model::is_name;
 use std::str;
 
 /// What follows the word, if the text begins with it.
-pub fn after<'a>(rest: &'a [u8], word: &[u8]) -> Option<&'a [u8]>
-    ensures { MatchOption result ((more : List ℕ) → rest.now ≡ word.now ++ more → ⊥) (λ more. rest.now ≡ word.now ++ more.now) }
+pub fn after<'a>(text: &'a [u8], word: &[u8]) -> Option<&'a [u8]>
+    ensures { MatchOption result ((more : List ℕ) → text.now ≡ word.now ++ more → ⊥) (λ more. text.now ≡ word.now ++ more.now) }
 {
-    rest.strip_prefix(word)
+    text.strip_prefix(word)
+}
+
+fn place_of(text: &[u8], mark: u8) -> Option<usize>
+    ensures { result ≡ position (λ c. c == mark) text.now }
+{
+    text.iter().position(|c| *c == mark)
+}
+
+/// The text cut in two at its first mark, which is in neither part.
+fn cut(text: &[u8], mark: u8) -> Option<(&[u8], &[u8])>
+    ensures whole { IfSome result (λ parts. text.now ≡ parts.0.now ++ mark ∷ parts.1.now) }
+    ensures first { IfSome result (λ parts. Lacks mark parts.0.now) }
+    ensures none { IfNone result (Lacks mark text.now) }
+{
+    let end = place_of(text, mark)?;
+    Some((&text[..end], &text[end + 1..]))
 }
 
 /// The bytes as a name.
@@ -23,19 +40,13 @@ fn name_of(bytes: &[u8]) -> Option<&str>
     }
 }
 
-/// The text cut in two at its first byte of this kind, which is in neither part.
-fn cut(rest: &[u8], mark: u8) -> Option<(&[u8], &[u8])>
-{
-    let end = rest.iter().position(|c| *c == mark)?;
-    Some((&rest[..end], &rest[end + 1..]))
-}
-
 /// The name that the text begins with, and what follows the mark behind it.
-pub fn name_before(rest: &[u8], mark: u8) -> Option<(&str, &[u8])>
+pub fn name_before(text: &[u8], mark: u8) -> Option<(&str, &[u8])>
     requires { continues_name mark ≡ false }
-    ensures name { IfSome result (λ found. IsName found.0.now × (rest.now ≡ found.0.now ++ mark ∷ found.1.now)) }
-    ensures none { IfNone result ((name more : List ℕ) → IsName name → rest.now ≡ name ++ mark ∷ more → ⊥) }
+    ensures name { IfSome result (λ found. IsName found.0.now × (text.now ≡ found.0.now ++ mark ∷ found.1.now)) }
+    ensures none { IfNone result ((name more : List ℕ) → IsName name → text.now ≡ name ++ mark ∷ more → ⊥) }
 {
-    let (front, more) = cut(rest, mark)?;
-    Some((name_of(front)?, more))
+    let (front, more) = cut(text, mark)?;
+    let name = name_of(front)?;
+    Some((name, more))
 }

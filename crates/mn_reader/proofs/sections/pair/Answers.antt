@@ -1,0 +1,18 @@
+use Rattle.std.proofs.Common.{◌≡◌, sym, ◌∙◌, subst, ap, codes}
+use Rattle.mn_reader.proofs.Asks.{first_name, second_name}
+use Rattle.mn_reader.proofs.sections.pair.Goals as goal
+
+pub returns-in_err-y-clause-none : goal.returns-in_err-y-clause-none
+returns-in_err-y-clause-none c =
+    rw c.from_residual-in_err-y.ensures (λ v w more p.
+    let first = first_name c.args.instance.now c.args.text.now v w more c.in_ok-x.x.now c.in_ok-x.rest.now c.in_ok-x.ensures.name.0 c.in_ok-x.ensures.name.1 p in
+    c.in_err-y.ensures.none p.y (codes "\n" ++ more) p.second.0 first.1)
+
+pub returns-in_err-rest-clause-none : goal.returns-in_err-rest-clause-none
+returns-in_err-rest-clause-none c = ?
+
+pub returns-in_err-var-clause-none : goal.returns-in_err-var-clause-none
+returns-in_err-var-clause-none c = ?
+
+pub returns-in_err-var-2-clause-none : goal.returns-in_err-var-2-clause-none
+returns-in_err-var-2-clause-none c = ?
