@@ -126,6 +126,7 @@ impl Instance {
         ensures found { option_copied result ≡ declared_as self.now.decls name.now }
         ensures lawful { IfSome result (λ d. IsLawfulDecl d.now) }
         ensures within { IfSome result (λ d. number_of d.now.first + size_of_dims d.now.dims ≤ VARIABLES) }
+        ensures among { IfSome result (λ d. number_of d.now.first + size_of_dims d.now.dims ≤ variable_count self.now.decls) }
     {
         let place = *self.names.get(name)?;
         Some(&self.decls[place as usize])
@@ -134,7 +135,8 @@ impl Instance {
     /// The variable that a name means, with these indices where the name is that of a matrix. None exactly where
     /// nothing of that name has such a place.
     pub fn var(&self, name: &str, subs: &[u32]) -> Option<VarId>
-        ensures { result ≡ variable_in (declared_as self.now.decls name.now) subs.now }
+        ensures place { result ≡ variable_in (declared_as self.now.decls name.now) subs.now }
+        ensures among { IfSome result (λ v. number_of v < variable_count self.now.decls) }
     {
         let decl = self.find(name)?;
         let offset = offset_of(decl.dims.as_slice(), subs)?;

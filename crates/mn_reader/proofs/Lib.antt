@@ -1,0 +1,4 @@
+pub mod Asks
+pub mod Cutting
+pub mod Refusing
+pub mod Steps

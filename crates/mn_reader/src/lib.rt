@@ -3,9 +3,14 @@
 
 ghost use Rattle.std.specs.Prelude.{◌≡◌, ◌<◌, ◌≤◌, ◌⊎◌, ◌↔◌, length, IfErr, IfOk, IsOkAnd, Err};
 ghost use Rattle.mn_model.specs.Problem.{Problem};
+ghost use Rattle.mn_reader.specs.Left.{Refuses};
 ghost use Rattle.mn_reader.specs.Reads.{Reads};
 
+mod line;
+mod sections;
+
 use mn_model::{Instance, Refusal, TEXT_BYTES, Which};
+use sections::{constraints, declarations, heading};
 use std::alloc::Global;
 
 /// The instance that the text stands for.
@@ -21,5 +26,19 @@ pub fn read(alloc: Global, text: &[u8]) -> Result<Instance, Refusal>
     if text.len() as u64 > TEXT_BYTES {
         return Err(Refusal::Limit(Which::Text, TEXT_BYTES));
     }
-    Ok(Instance::empty(alloc)?)
+    instance_of(alloc, text)
+}
+
+/// The instance that a text of any length stands for.
+fn instance_of(alloc: Global, text: &[u8]) -> Result<Instance, Refusal>
+    ensures only { IfOk result (λ i. (r : Problem) → Reads text.now r ↔ (r ≡ i)) }
+    ensures refuses { IfErr result (Refuses ((r : Problem) × Reads text.now r)) }
+{
+    let Some(rest) = heading(text) else {
+        return Err(Refusal::Unsupported(0));
+    };
+    let mut instance = Instance::empty(alloc)?;
+    let rest = declarations(alloc, &mut instance, rest)?;
+    constraints(&mut instance, rest)?;
+    Ok(instance)
 }

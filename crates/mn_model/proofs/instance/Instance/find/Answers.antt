@@ -1,10 +1,11 @@
-use Rattle.std.proofs.Common.{◌≡◌, ℕ, ap, sym, ◌∙◌, arith, Some, None, List, String, string_bytes, refl, slice_get, length}
+use Rattle.std.proofs.Common.{◌≡◌, ℕ, ◌+◌, ◌≤◌, ap, subst, sym, ◌∙◌, arith, Some, None, List, String, string_bytes, refl, slice_get, length}
 use Rattle.std.proofs.lemmas.Option.{slice_get_read}
 use Rattle.std.specs.Map.{lookup}
 use Rattle.std.specs.Option.{option_copied}
 use Rattle.std.specs.Str.{bytes_eq}
 use Rattle.mn_model.specs.Index.{entries_read, names_from}
-use Rattle.mn_model.specs.Problem.{declared_as, IsLawfulDecl}
+use Rattle.mn_model.specs.Problem.{declared_as, size_of_dims, variable_count, IsLawfulDecl}
+use Rattle.mn_model.specs.Variable.{number_of}
 use Rattle.mn_model.specs.declared.instance.Decl.{Decl}
 use Rattle.mn_model.proofs.Found.{found_at, undeclared, lookup-entries_read}
 use Rattle.mn_model.proofs.Kept.{AllByRecursion-at, numbered_within}
@@ -43,3 +44,9 @@ returns-clause-lawful c = AllByRecursion-at IsLawfulDecl c.self.inside.decls.ite
 
 pub returns-clause-within : goal.returns-clause-within
 returns-clause-within c = omega (arith, numbered_within 0 c.self.inside.decls.items c.in_ok-place.field-0.now c.index.result.now c.self.invariant.lawful.numbered (held c), c.self.invariant.lawful.few_variables)
+
+pub returns-clause-among : goal.returns-clause-among
+returns-clause-among c =
+    let here : number_of c.index.result.now.first + size_of_dims c.index.result.now.dims ≤ variable_count c.self.inside.decls.items =
+    omega (arith, numbered_within 0 c.self.inside.decls.items c.in_ok-place.field-0.now c.index.result.now c.self.invariant.lawful.numbered (held c)) in
+    subst (λ (ds : List Decl). number_of c.index.result.now.first + size_of_dims c.index.result.now.dims ≤ variable_count ds) (ap (λ p. p.decls) c.self.view_is) here

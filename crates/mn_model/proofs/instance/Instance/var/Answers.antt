@@ -4,8 +4,8 @@ use Rattle.mn_model.specs.Problem.{variable_in, offset_from}
 use Rattle.mn_model.specs.Variable.{number_of, variable}
 use Rattle.mn_model.proofs.instance.Instance.var.Goals as goal
 
-pub returns : goal.returns
-returns c =
+pub returns-clause-place : goal.returns-clause-place
+returns-clause-place c =
     let number = c.new.ensures ∙ ap (λ first. first + c.in_ok-offset.offset) c.number.ensures in
     let place = c.in_ok-offset.ensures.place ∙ ap (λ dims. offset_from 0 dims c.args.subs.now) c.as_slice.ensures in
     ap (λ n. Some (variable n)) number
