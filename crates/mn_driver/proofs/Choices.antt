@@ -38,7 +38,7 @@ turned_choices : (values : List ℤ) (domains : List (List ℤ)) (place : ℕ) (
 turned_choices values domains place true test are =
     let below : suc place < length values = is_below (suc place) (length values) test in
     ap (flat_map (λ b. map (λ s. b ∷ s) (choices domains))) (drop_next values (suc place) below)
-      ∙ ap (λ cs. map (λ s. get_or values (suc place) (pos 0) ∷ s) cs ++ flat_map (λ b. map (λ s. b ∷ s) (choices domains)) (drop (suc (suc place)) values)) (choices_first domains are)
+    ∙ ap (λ cs. map (λ s. get_or values (suc place) (pos 0) ∷ s) cs ++ flat_map (λ b. map (λ s. b ∷ s) (choices domains)) (drop (suc (suc place)) values)) (choices_first domains are)
   where
     is_below : (a b : ℕ) → nat_lt a b ≡ true → a < b
     is_below a b h = grind (arith, nat_tests)
@@ -54,7 +54,7 @@ carried_choices values domains place places (Some more) behind are =
     ap (λ cs. map (λ s. get_or values place (pos 0) ∷ s) cs ++ flat_map (λ b. map (λ s. b ∷ s) (choices domains)) (drop (suc place) values)) behind
 carried_choices values domains place places None behind are =
     ap (λ cs. map (λ s. get_or values place (pos 0) ∷ s) cs ++ flat_map (λ b. map (λ s. b ∷ s) (choices domains)) (drop (suc place) values)) behind
-      ∙ turned_choices values domains place (nat_lt (suc place) (length values)) refl are
+    ∙ turned_choices values domains place (nat_lt (suc place) (length values)) refl are
 
 -- what comes behind an assignment begins with the next one
 pub choices_next : (domains : List (List ℤ)) (places : List ℕ) → ArePlaces domains places → choices_behind domains places ≡ choices_from domains (next_places domains places)

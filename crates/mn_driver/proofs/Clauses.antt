@@ -197,9 +197,10 @@ module _ (told : Option FileMap) (name : Option (List ℕ)) (unread read : List 
   long_text e = map_model name each (told_of (Refused (Limit Text TEXT_BYTES)) (λ d. cc) e)
     where
       by : (model : List ℕ) (lost : Lost told name unread read old new before after model (Refused (Limit Text TEXT_BYTES)) n) → ((Limit Text TEXT_BYTES ≡ Limit Text TEXT_BYTES) × ((lines : ℕ) × (lost.why ≡ unloads.TooLong lines) × AddsLine old new before after [] (too_long_line lines)))
-        ⊎ ((Limit Text TEXT_BYTES ≡ Unsupported 0) × (lost.why ≡ unloads.Other) × AddsLine old new before after [] unsupported_line) → (lines : ℕ) × IsLong told model lines × AddsLine old new before after [] (too_long_line lines)
+          ⊎ ((Limit Text TEXT_BYTES ≡ Unsupported 0) × (lost.why ≡ unloads.Other) × AddsLine old new before after [] unsupported_line) → (lines : ℕ) × IsLong told model lines × AddsLine old new before after [] (too_long_line lines)
       by model lost (inl (is, (lines, why, line))) = (lines, (subst (Unloads told model) why lost.held).1, line)
       by model lost (inr other) = let is = other.0 in cc
+
       each : (model : List ℕ) → Found told name unread read old new before after model (Refused (Limit Text TEXT_BYTES)) n ⊎ Lost told name unread read old new before after model (Refused (Limit Text TEXT_BYTES)) n → (n ≡ 0) × ((lines : ℕ) × IsLong told model lines × AddsLine old new before after [] (too_long_line lines))
       each model (inl found) = absurd found.solves
       each model (inr lost) = (lost.none, by model lost (refused_as old new before after lost.why (Limit Text TEXT_BYTES) lost.refuses))
@@ -208,9 +209,10 @@ module _ (told : Option FileMap) (name : Option (List ℕ)) (unread read : List 
   other_text e = map_model name each (told_of (Refused (Unsupported 0)) (λ d. cc) e)
     where
       by : (model : List ℕ) (lost : Lost told name unread read old new before after model (Refused (Unsupported 0)) n) → ((Unsupported 0 ≡ Limit Text TEXT_BYTES) × ((lines : ℕ) × (lost.why ≡ unloads.TooLong lines) × AddsLine old new before after [] (too_long_line lines)))
-        ⊎ ((Unsupported 0 ≡ Unsupported 0) × (lost.why ≡ unloads.Other) × AddsLine old new before after [] unsupported_line) → IsOther told model × AddsLine old new before after [] unsupported_line
+          ⊎ ((Unsupported 0 ≡ Unsupported 0) × (lost.why ≡ unloads.Other) × AddsLine old new before after [] unsupported_line) → IsOther told model × AddsLine old new before after [] unsupported_line
       by model lost (inl long) = let is = long.0 in cc
       by model lost (inr (is, why, line)) = (subst (Unloads told model) why lost.held, line)
+
       each : (model : List ℕ) → Found told name unread read old new before after model (Refused (Unsupported 0)) n ⊎ Lost told name unread read old new before after model (Refused (Unsupported 0)) n → (n ≡ 0) × IsOther told model × AddsLine old new before after [] unsupported_line
       each model (inl found) = absurd found.solves
       each model (inr lost) = let told_line = by model lost (refused_as old new before after lost.why (Unsupported 0) lost.refuses) in (lost.none, told_line.0, told_line.1)
@@ -240,6 +242,7 @@ module _ (told : Option FileMap) (name : Option (List ℕ)) (unread read : List 
       refused_so : (model : List ℕ) → Found told name unread read old new before after model status n ⊎ Lost told name unread read old new before after model status n → status ≡ Usage (Unknown 0) → ⊥
       refused_so model (inl found) e = subst (λ s. Solves old new before after found.problem s n) e found.solves
       refused_so model (inr lost) e = not_misused old new before after lost.why (Unknown 0) (subst (Refuses old new before after lost.why) e lost.refuses)
+
       to : Explains told name unread read old new before after status n → status ≡ Usage (Unknown 0) → name ≡ None
       to (inl misused) e = misused.nothing
       to (inr some) e = absurd (some_bottom name (map_model name (λ m h. refused_so m h e) some))
@@ -247,6 +250,7 @@ module _ (told : Option FileMap) (name : Option (List ℕ)) (unread read : List 
           some_bottom : (o : Option (List ℕ)) → IsSomeAnd o (λ _. ⊥) → ⊥
           some_bottom None h = h
           some_bottom (Some m) h = h
+
       from : Explains told name unread read old new before after status n → name ≡ None → status ≡ Usage (Unknown 0)
       from (inl misused) e = misused.is
       from (inr some) e = absurd (not_none (λ m. Found told name unread read old new before after m status n ⊎ Lost told name unread read old new before after m status n) name some e)
@@ -266,11 +270,13 @@ module _ (told : Option FileMap) (name : Option (List ℕ)) (unread read : List 
       solved (inl e) = inl e
       solved (inr (inl e)) = inr (inl e)
       solved (inr (inr e)) = inr (inr (inr e))
+
       lost_by : (model : List ℕ) (p : Problem) (why : Unloaded) → HoldsModel told model p → Unloads told model why → Refuses old new before after why status → IsModelStatus status
       lost_by model p unloads.Failed holds held refuses = elim (failed_status old new before after status refuses) [ inl e ↦ inr (inr (inl e)) | inr e ↦ inr (inr (inr e)) ]
       lost_by model p (unloads.TooLong lines) holds held refuses = absurd (model_not_long told model p holds (long_so told holds.there.0 model lines holds.there.1 held.1))
       lost_by model p unloads.Other holds held refuses = absurd (model_not_other told model p holds (told_so told holds.there.0 holds.there.1 held))
       lost_by model p unloads.NoMemory holds held refuses = inr (inr (inr (memory_status old new before after status refuses)))
+
       by : (model : List ℕ) (p : Problem) → HoldsModel told model p → Found told name unread read old new before after model status n ⊎ Lost told name unread read old new before after model status n → IsModelStatus status
       by model p holds (inl found) = solved (solved_status old new before after found.problem status n found.solves)
       by model p holds (inr lost) = lost_by model p lost.why holds lost.held lost.refuses
@@ -287,11 +293,13 @@ module _ (told : Option FileMap) (name : Option (List ℕ)) (unread read : List 
           inl (e, subst (λ q. WritesReport q old new n) (sym (found.is.only p holds)) written)
       solved model p holds kept found (inr (inl e)) = absurd (kept (subst (λ s. Solves old new before after found.problem s n) e found.solves).0)
       solved model p holds kept found (inr (inr e)) = inr e
+
       lost_by : (model : List ℕ) (p : Problem) (why : Unloaded) → HoldsModel told model p → (why ≡ unloads.Failed → ⊥) → Unloads told model why → Refuses old new before after why status → status ≡ NoMemory
       lost_by model p unloads.Failed holds read_it held refuses = absurd (read_it refl)
       lost_by model p (unloads.TooLong lines) holds read_it held refuses = absurd (model_not_long told model p holds (long_so told holds.there.0 model lines holds.there.1 held.1))
       lost_by model p unloads.Other holds read_it held refuses = absurd (model_not_other told model p holds (told_so told holds.there.0 holds.there.1 held))
       lost_by model p unloads.NoMemory holds read_it held refuses = memory_status old new before after status refuses
+
       by : (model : List ℕ) (p : Problem) → HoldsModel told model p → (HasRisen (unread model) (read model) → ⊥) → (HasRisen before after → ⊥) → Found told name unread read old new before after model status n ⊎ Lost told name unread read old new before after model status n
           → ((status ≡ Complete) × WritesReport p old new n) ⊎ (status ≡ NoMemory)
       by model p holds unrisen kept (inl found) = solved model p holds kept found (solved_status old new before after found.problem status n found.solves)
@@ -314,23 +322,48 @@ module _ (told : Option FileMap) (name : Option (List ℕ)) (unread read : List 
   pub long_status_is : IfSome name (λ model. HoldsLongText told model → Yields status (Refused (Limit Text TEXT_BYTES)))
   long_status_is = for_asked (λ model. HoldsLongText told model → Yields status (Refused (Limit Text TEXT_BYTES))) name
       (λ model asks holds. yields (HoldsLongText told) (Refused (Limit Text TEXT_BYTES))
-        (λ m p long is. model_not_long told m p (told_so told long.1.0 long.1.1 is.held) long)
-        (λ m lines long is. refl)
-        (λ m long is. absurd (other_not_long told m (told_so told long.1.0 long.1.1 is) long))
-        model holds (came model asks))
+      (λ m p long is. model_not_long told m p (told_so told long.1.0 long.1.1 is.held) long)
+      (λ m lines long is. refl)
+      (λ m long is. absurd (other_not_long told m (told_so told long.1.0 long.1.1 is) long))
+      model holds (came model asks))
 
   pub other_status_is : IfSome name (λ model. HoldsOtherText told model → Yields status (Refused (Unsupported 0)))
   other_status_is = for_asked (λ model. HoldsOtherText told model → Yields status (Refused (Unsupported 0))) name
       (λ model asks holds. yields (HoldsOtherText told) (Refused (Unsupported 0))
-        (λ m p other is. model_not_other told m p (told_so told other.there.0 other.there.1 is.held) other)
-        (λ m lines other is. absurd (other_not_long told m other (long_so told other.there.0 m lines other.there.1 is)))
-        (λ m other is. refl)
-        model holds (came model asks))
+      (λ m p other is. model_not_other told m p (told_so told other.there.0 other.there.1 is.held) other)
+      (λ m lines other is. absurd (other_not_long told m other (long_so told other.there.0 m lines other.there.1 is)))
+      (λ m other is. refl)
+      model holds (came model asks))
 
   pub absent_status_is : IfSome name (λ model. IsAbsent told model → Yields status ReadFault)
   absent_status_is = for_asked (λ model. IsAbsent told model → Yields status ReadFault) name
       (λ model asks holds. yields (IsAbsent told) ReadFault
-        (λ m p absent is. let model_held = told_so told absent.0 absent.1 is.held in absent_not_told told m absent model_held.text model_held.there)
-        (λ m lines absent is. let long = long_so told absent.0 m lines absent.1 is in absurd (absent_not_told told m absent long.0 long.1))
-        (λ m absent is. let other = told_so told absent.0 absent.1 is in absurd (absent_not_told told m absent other.text other.there))
-        model holds (came model asks))
+      (λ m p absent is. let model_held = told_so told absent.0 absent.1 is.held in absent_not_told told m absent model_held.text model_held.there)
+      (λ m lines absent is. let long = long_so told absent.0 m lines absent.1 is in absurd (absent_not_told told m absent long.0 long.1))
+      (λ m absent is. let other = told_so told absent.0 absent.1 is in absurd (absent_not_told told m absent other.text other.there))
+      model holds (came model asks))
+
+  -- there are no other refusals
+  pub refusals : (why : Refusal) → status ≡ Refused why → (why ≡ Limit Text TEXT_BYTES) ⊎ (why ≡ Unsupported 0)
+  refusals why e = one_of name (told_of (Refused why) (λ d. cc) e)
+    where
+      each : (model : List ℕ) → Found told name unread read old new before after model (Refused why) n ⊎ Lost told name unread read old new before after model (Refused why) n → (why ≡ Limit Text TEXT_BYTES) ⊎ (why ≡ Unsupported 0)
+      each model (inl found) = absurd found.solves
+      each model (inr lost) = elim (refused_as old new before after lost.why why lost.refuses) [ inl long ↦ inl long.0 | inr other ↦ inr other.0 ]
+      one_of : (o : Option (List ℕ)) → IsSomeAnd o (λ model. Found told name unread read old new before after model (Refused why) n ⊎ Lost told name unread read old new before after model (Refused why) n) → (why ≡ Limit Text TEXT_BYTES) ⊎ (why ≡ Unsupported 0)
+      one_of None h = absurd h
+      one_of (Some model) h = each model h
+
+  -- and no other rule that the words break
+  pub usages : (rule : Rule) → status ≡ Usage rule → rule ≡ Unknown 0
+  usages rule e = by explained
+    where
+      each : (model : List ℕ) → Found told name unread read old new before after model status n ⊎ Lost told name unread read old new before after model status n → ⊥
+      each model (inl found) = subst (λ s. Solves old new before after found.problem s n) e found.solves
+      each model (inr lost) = not_misused old new before after lost.why rule (subst (Refuses old new before after lost.why) e lost.refuses)
+      none_of : (o : Option (List ℕ)) → IsSomeAnd o (λ model. Found told name unread read old new before after model status n ⊎ Lost told name unread read old new before after model status n) → ⊥
+      none_of None h = h
+      none_of (Some model) h = each model h
+      by : Explains told name unread read old new before after status n → rule ≡ Unknown 0
+      by (inl misused) = let is = misused.is in cc
+      by (inr some) = absurd (none_of name some)

@@ -52,7 +52,7 @@ pub refused : (told : Option FileMap) (name bytes : List ℕ) (why : Refusal) �
 refused told name bytes why is fits long unsupported (inl limit) = absurd (let l = long limit in omega arith)
 refused told name bytes why is fits long unsupported (inr (inl un)) =
     subst (λ w. Unloads told name (unread w)) (sym un)
-      (map_some told (Tells told name bytes) (HoldsOtherText told name) (λ there. record { text = bytes; there = there; fits = fits; unread = unsupported un }) (tells told name bytes is))
+    (map_some told (Tells told name bytes) (HoldsOtherText told name) (λ there. record { text = bytes; there = there; fits = fits; unread = unsupported un }) (tells told name bytes is))
 refused told name bytes why is fits long unsupported (inr (inr memory)) = subst (λ w. Unloads told name (unread w)) (sym memory) tt
 
 -- the text wasn't fetched

@@ -1,6 +1,8 @@
 ghost use Rattle.std.specs.Prelude.{◌≡◌, ℕ, ◌≤◌, ◌⊎◌, ◌↔◌, [], List, map, None, IfSome, IsSomeAnd, string_bytes};
 ghost use Rattle.std.specs.Option.{option_map};
 ghost use Rattle.mn_model.specs.Problem.{Problem};
+ghost use Rattle.mn_model.specs.declared.refusal.Refusal.{Refusal};
+ghost use Rattle.mn_driver.specs.declared.status.Usage.{Usage};
 ghost use Rattle.mn_outside.specs.Faults.{HasRisen};
 ghost use Rattle.mn_driver.specs.Codes.{unflushed};
 ghost use Rattle.mn_driver.specs.Explains.{Explains, HasFewLines, Refuses, Solves};
@@ -195,6 +197,11 @@ pub fn run<F: Files, O: Sink>(
     ensures usage { (result.status ≡ Status.Usage (Usage.Unknown 0)) ↔ (asked (map string_bytes words.now.items) ≡ None) }
     ensures usage_line { result.status ≡ Status.Usage (Usage.Unknown 0) → (result.solutions ≡ 0)
         × AddsLine (O.content out.old) (O.content out.new) (O.faults out.old) (O.faults out.new) [] usage_line }
+
+    // There are no other refusals.
+    ensures refusals { (why : Refusal) → result.status ≡ Status.Refused why
+        → (why ≡ Refusal.Limit Which.Text TEXT_BYTES) ⊎ (why ≡ Refusal.Unsupported 0) }
+    ensures usages { (rule : Usage) → result.status ≡ Status.Usage rule → rule ≡ Usage.Unknown 0 }
 
     // Where the files tell, each file has its answer, unless reading fails or memory runs out.
     ensures model { IfSome (asked (map string_bytes words.now.items)) (λ name. (p : Problem)

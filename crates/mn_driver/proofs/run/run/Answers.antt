@@ -41,3 +41,9 @@ returns-clause-absent g c = clauses.absent_status_is (g.F.Files.content c.args.f
 
 pub returns-clause-printed : goal.returns-clause-printed
 returns-clause-printed g c = clauses.printed (g.F.Files.content c.args.files.now) (asked (map string_bytes c.args.words.now.items)) (g.F.Files.reading c.args.files.now) (g.F.Files.reading c.run_explained.new.files) (g.O.Sink.content c.args.out.now) (g.O.Sink.content c.run_explained.new.out) (g.O.Sink.faults c.args.out.now) (g.O.Sink.faults c.run_explained.new.out) c.run_explained.result.status c.run_explained.result.solutions c.run_explained.ensures.explained
+
+pub returns-clause-refusals : goal.returns-clause-refusals
+returns-clause-refusals g c = clauses.refusals (g.F.Files.content c.args.files.now) (asked (map string_bytes c.args.words.now.items)) (g.F.Files.reading c.args.files.now) (g.F.Files.reading c.run_explained.new.files) (g.O.Sink.content c.args.out.now) (g.O.Sink.content c.run_explained.new.out) (g.O.Sink.faults c.args.out.now) (g.O.Sink.faults c.run_explained.new.out) c.run_explained.result.status c.run_explained.result.solutions c.run_explained.ensures.explained
+
+pub returns-clause-usages : goal.returns-clause-usages
+returns-clause-usages g c = clauses.usages (g.F.Files.content c.args.files.now) (asked (map string_bytes c.args.words.now.items)) (g.F.Files.reading c.args.files.now) (g.F.Files.reading c.run_explained.new.files) (g.O.Sink.content c.args.out.now) (g.O.Sink.content c.run_explained.new.out) (g.O.Sink.faults c.args.out.now) (g.O.Sink.faults c.run_explained.new.out) c.run_explained.result.status c.run_explained.result.solutions c.run_explained.ensures.explained

@@ -1,0 +1,27 @@
+//! The program: passes the words of the command line, the files and standard output on to `run`, and ends with the
+//! number of the status that `run` answers.
+#![tactic(auto)]
+
+use mn_driver::{Status, run};
+use mn_outside::{DiskFiles, StdSink};
+use std::env;
+use std::process::ExitCode;
+
+fn main(rt: HostRuntime) -> ExitCode {
+    let mut words = Vec::new(rt.alloc());
+    let mut files = DiskFiles::new(rt);
+    let mut out = StdSink::new(rt);
+    let status = match read_words(rt, &mut words) {
+        Ok(()) => run(rt.alloc(), &words, &mut files, &mut out).status,
+        Err(_) => Status::NoMemory,
+    };
+    ExitCode::from(status.code())
+}
+
+/// The words after the program's name.
+fn read_words(rt: HostRuntime, words: &mut Vec<String>) -> std::io::Result<()> {
+    for word in env::args(&rt)?.skip(1) {
+        words.push(word)?;
+    }
+    Ok(())
+}
