@@ -3,3 +3,5 @@ pub mod Turning
 pub mod Carrying
 pub mod Choices
 pub mod Solving
+pub mod Loading
+pub mod Lines

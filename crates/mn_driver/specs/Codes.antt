@@ -11,3 +11,8 @@ code_of (Usage why) = 2
 code_of ReadFault = 3
 code_of WriteFault = 4
 code_of NoMemory = 6
+
+-- the status of a run whose last flush failed
+abbrev pub unflushed : Status → Status
+unflushed Complete = WriteFault
+unflushed other = other

@@ -1,5 +1,7 @@
 pub mod Ahead
 pub mod Codes
+pub mod Explains
+pub mod Loads
 pub mod Report
 pub mod Runs
 pub mod Standing
