@@ -5,3 +5,5 @@ pub mod Choices
 pub mod Solving
 pub mod Loading
 pub mod Lines
+pub mod Flushed
+pub mod Clauses

@@ -2,6 +2,7 @@ pub mod Ahead
 pub mod Codes
 pub mod Explains
 pub mod Loads
+pub mod Owes
 pub mod Report
 pub mod Runs
 pub mod Standing

@@ -48,3 +48,7 @@ abbrev pub AddsLine : Option (List ℕ) → Option (List ℕ) → ℕ → ℕ �
 AddsLine old new before after bytes line =
     (new ≡ with_bytes old (bytes ++ line))
     ⊎ (HasRisen before after × ((part : List ℕ) × IsFrontOf part line × (new ≡ with_bytes old (bytes ++ part))))
+
+-- the files tell that the named one isn't there
+abbrev pub IsAbsent : Option FileMap → List ℕ → Type 0
+IsAbsent told name = (files : FileMap) × (told ≡ Some files) × (file_at files name ≡ None)

@@ -1,8 +1,13 @@
-ghost use Rattle.std.specs.Prelude.{◌≡◌, ◌≤◌, ◌<◌, [], map, Option, option_map, string_bytes};
+ghost use Rattle.std.specs.Prelude.{◌≡◌, ℕ, ◌≤◌, ◌⊎◌, ◌↔◌, [], List, map, None, IfSome, IsSomeAnd, string_bytes};
+ghost use Rattle.std.specs.Option.{option_map};
+ghost use Rattle.mn_model.specs.Problem.{Problem};
 ghost use Rattle.mn_outside.specs.Faults.{HasRisen};
 ghost use Rattle.mn_driver.specs.Codes.{unflushed};
 ghost use Rattle.mn_driver.specs.Explains.{Explains, HasFewLines, Refuses, Solves};
-ghost use Rattle.mn_driver.specs.Runs.{AddsLine};
+ghost use Rattle.mn_driver.specs.Owes.{IsModelStatus, StoppedAt, Yields};
+ghost use Rattle.mn_driver.specs.Report.{memory_line, read_line, too_long_line, unsupported_line, usage_line};
+ghost use Rattle.mn_driver.specs.Runs.{AddsLine, HoldsLongText, HoldsModel, HoldsOtherText, IsAbsent, IsLong, IsOther, IsTheModel};
+ghost use Rattle.mn_driver.specs.Written.{WritesReport, WritesSome};
 ghost use Rattle.mn_driver.specs.Words.{asked};
 
 use crate::load::{Unloaded, load};
@@ -150,4 +155,67 @@ fn run_explained<F: Files, O: Sink>(
         Ok(()) => ended,
         Err(Failed) => unflushed(ended),
     }
+}
+
+/// The program: finds what the words ask for, reads the model, and writes its report.
+pub fn run<F: Files, O: Sink>(
+    alloc: Global,
+    words: &Vec<String>,
+    files: &mut F,
+    out: &mut O,
+) -> Ended
+    // Complete: the whole report of the one instance of which the named file holds a text.
+    ensures complete { result.status ≡ Status.Complete → IsSomeAnd (asked (map string_bytes words.now.items)) (λ name. (p : Problem)
+        × IsTheModel (F.content files.old) name p × WritesReport p (O.content out.old) (O.content out.new) result.solutions) }
+
+    // A fault of the output: its count rose, and a front of the report stands, with so many blocks whole.
+    ensures write_fault { result.status ≡ Status.WriteFault → IsSomeAnd (asked (map string_bytes words.now.items)) (λ name. (p : Problem)
+        × IsTheModel (F.content files.old) name p × HasRisen (O.faults out.old) (O.faults out.new)
+        × WritesSome p (O.content out.old) (O.content out.new) result.solutions) }
+
+    // A fault of reading: the count of the model's name rose, and nothing but the fault's line was written.
+    ensures read_fault { result.status ≡ Status.ReadFault → IsSomeAnd (asked (map string_bytes words.now.items)) (λ name.
+        HasRisen (F.reading files.old name) (F.reading files.new name) × (result.solutions ≡ 0)
+        × AddsLine (O.content out.old) (O.content out.new) (O.faults out.old) (O.faults out.new) [] read_line) }
+
+    // Want of memory: a front of the report, and behind it the fault's line.
+    ensures no_memory { result.status ≡ Status.NoMemory → IsSomeAnd (asked (map string_bytes words.now.items)) (λ name. (done : List ℕ)
+        × StoppedAt (F.content files.old) name done result.solutions
+        × AddsLine (O.content out.old) (O.content out.new) (O.faults out.old) (O.faults out.new) done memory_line) }
+
+    // A text that is refused: what it is, and nothing but the fault's line.
+    ensures long_text { result.status ≡ Status.Refused (Refusal.Limit Which.Text TEXT_BYTES) → IsSomeAnd (asked (map string_bytes words.now.items)) (λ name.
+        (result.solutions ≡ 0) × ((lines : ℕ) × IsLong (F.content files.old) name lines
+        × AddsLine (O.content out.old) (O.content out.new) (O.faults out.old) (O.faults out.new) [] (too_long_line lines))) }
+    ensures other_text { result.status ≡ Status.Refused (Refusal.Unsupported 0) → IsSomeAnd (asked (map string_bytes words.now.items)) (λ name.
+        (result.solutions ≡ 0) × IsOther (F.content files.old) name
+        × AddsLine (O.content out.old) (O.content out.new) (O.faults out.old) (O.faults out.new) [] unsupported_line) }
+
+    // Words that ask for nothing.
+    ensures usage { (result.status ≡ Status.Usage (Usage.Unknown 0)) ↔ (asked (map string_bytes words.now.items) ≡ None) }
+    ensures usage_line { result.status ≡ Status.Usage (Usage.Unknown 0) → (result.solutions ≡ 0)
+        × AddsLine (O.content out.old) (O.content out.new) (O.faults out.old) (O.faults out.new) [] usage_line }
+
+    // Where the files tell, each file has its answer, unless reading fails or memory runs out.
+    ensures model { IfSome (asked (map string_bytes words.now.items)) (λ name. (p : Problem)
+        → HoldsModel (F.content files.old) name p → IsModelStatus result.status) }
+    ensures long { IfSome (asked (map string_bytes words.now.items)) (λ name.
+        HoldsLongText (F.content files.old) name → Yields result.status (Status.Refused (Refusal.Limit Which.Text TEXT_BYTES))) }
+    ensures other { IfSome (asked (map string_bytes words.now.items)) (λ name.
+        HoldsOtherText (F.content files.old) name → Yields result.status (Status.Refused (Refusal.Unsupported 0))) }
+    ensures absent { IfSome (asked (map string_bytes words.now.items)) (λ name.
+        IsAbsent (F.content files.old) name → Yields result.status Status.ReadFault) }
+
+    // The headline: where no fault was counted, exactly the report, unless memory runs out.
+    ensures printed { IfSome (asked (map string_bytes words.now.items)) (λ name. (p : Problem)
+        → HoldsModel (F.content files.old) name p
+        → (HasRisen (F.reading files.old name) (F.reading files.new name) → ⊥)
+        → (HasRisen (O.faults out.old) (O.faults out.new) → ⊥)
+        → ((result.status ≡ Status.Complete) × WritesReport p (O.content out.old) (O.content out.new) result.solutions)
+        ⊎ (result.status ≡ Status.NoMemory)) }
+
+    ensures nodes { result.nodes ≡ 0 }
+    ensures same_files { F.content files.new ≡ F.content files.old }
+{
+    run_explained(alloc, words, files, out)
 }

@@ -78,13 +78,14 @@ eq_there p text rest more v w r written pair (is_end e same) = absurd (one_head 
 
 -- the line of an `eq`
 pub eq_step : (p : Problem) (text rest more : List ℕ) (v w : VarId) (r : Problem) → text ≡ codes "eq(" ++ rest → IsPair p rest v w more → ConstrainsText p text r ↔ ((length p.cons < CONSTRAINTS) × ConstrainsText (with_con p (Eq (Var v) (Var w))) more r)
-eq_step p text rest more v w r written pair =
-    (λ d. eq_there p text rest more v w r written pair (constrains_case p text r d),
-    λ h. record {
-      lines = eq pair.x pair.y ∷ h.1.lines;
-      spelled = written ∙ (ap (λ cs. codes "eq(" ++ cs) pair.written ∙ (ap (λ cs. codes "eq(" ++ (pair.x ++ (codes "," ++ (pair.y ++ (codes ")\n" ++ cs))))) h.1.spelled ∙ sym (spelled_pair (codes "eq(") pair.x pair.y (flat_map spelling h.1.lines))));
-      leads = (v, w, pair.first, pair.second, h.0, h.1.leads);
-    })
+eq_step p text rest more v w r written pair = (
+  λ d. eq_there p text rest more v w r written pair (constrains_case p text r d),
+  λ h. record {
+    lines = eq pair.x pair.y ∷ h.1.lines;
+    spelled = written ∙ (ap (λ cs. codes "eq(" ++ cs) pair.written ∙ (ap (λ cs. codes "eq(" ++ (pair.x ++ (codes "," ++ (pair.y ++ (codes ")\n" ++ cs))))) h.1.spelled ∙ sym (spelled_pair (codes "eq(") pair.x pair.y (flat_map spelling h.1.lines))));
+    leads = (v, w, pair.first, pair.second, h.0, h.1.leads);
+  },
+)
 
 diseq_there : (p : Problem) (text rest more : List ℕ) (v w : VarId) (r : Problem) → text ≡ codes "diseq(" ++ rest → IsPair p rest v w more → ConstrainsCase p text r → (length p.cons < CONSTRAINTS) × ConstrainsText (with_con p (Diseq (Var v) (Var w))) more r
 diseq_there p text rest more v w r written pair (is_eq v' w' rest' more' e pair' room d) = absurd (one_head text 100 101 _ _ refl written e)
@@ -94,13 +95,14 @@ diseq_there p text rest more v w r written pair (is_end e same) = absurd (one_he
 
 -- the line of a `diseq`
 pub diseq_step : (p : Problem) (text rest more : List ℕ) (v w : VarId) (r : Problem) → text ≡ codes "diseq(" ++ rest → IsPair p rest v w more → ConstrainsText p text r ↔ ((length p.cons < CONSTRAINTS) × ConstrainsText (with_con p (Diseq (Var v) (Var w))) more r)
-diseq_step p text rest more v w r written pair =
-    (λ d. diseq_there p text rest more v w r written pair (constrains_case p text r d),
-    λ h. record {
-      lines = diseq pair.x pair.y ∷ h.1.lines;
-      spelled = written ∙ (ap (λ cs. codes "diseq(" ++ cs) pair.written ∙ (ap (λ cs. codes "diseq(" ++ (pair.x ++ (codes "," ++ (pair.y ++ (codes ")\n" ++ cs))))) h.1.spelled ∙ sym (spelled_pair (codes "diseq(") pair.x pair.y (flat_map spelling h.1.lines))));
-      leads = (v, w, pair.first, pair.second, h.0, h.1.leads);
-    })
+diseq_step p text rest more v w r written pair = (
+  λ d. diseq_there p text rest more v w r written pair (constrains_case p text r d),
+  λ h. record {
+    lines = diseq pair.x pair.y ∷ h.1.lines;
+    spelled = written ∙ (ap (λ cs. codes "diseq(" ++ cs) pair.written ∙ (ap (λ cs. codes "diseq(" ++ (pair.x ++ (codes "," ++ (pair.y ++ (codes ")\n" ++ cs))))) h.1.spelled ∙ sym (spelled_pair (codes "diseq(") pair.x pair.y (flat_map spelling h.1.lines))));
+    leads = (v, w, pair.first, pair.second, h.0, h.1.leads);
+  },
+)
 
 end_there : (p : Problem) (text : List ℕ) (r : Problem) → text ≡ codes "**EOF**\n" → ConstrainsCase p text r → r ≡ p
 end_there p text r written (is_eq v w rest more e pair room d) = absurd (one_head text 42 101 _ _ refl written e)

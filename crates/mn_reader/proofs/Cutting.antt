@@ -8,7 +8,7 @@ use borrow.Author.Tests.{ltb-false}
 use Rattle.std.specs.List.{list_all, position_or_len}
 use Rattle.std.specs.Str.{IsAscii, IsUtf8}
 use Rattle.std.proofs.lemmas.Str.{IsUtf8-from_ascii}
-use Rattle.mn_model.specs.Name.{begins_name, continues_name, is_name, IsName}
+use Rattle.mn_model.specs.Name.{begins_name, continues_name, IsName}
 use Rattle.mn_reader.specs.Left.{Lacks}
 
 -- two lists before a mark that neither has are the same, and so is what follows

@@ -1,5 +1,5 @@
 -- What is answered where something may be refused.
-use Rattle.std.proofs.Common.{◌≡◌, ℕ, List, [], Option, None, Some, ◌⊎◌, inl, inr, sym, subst}
+use Rattle.std.proofs.Common.{◌≡◌, ℕ, List, [], Option, None, Some, inl, inr, sym, subst}
 use Rattle.std.specs.Option.{MatchOption, IfSome, IfNone}
 use Rattle.std.specs.Prelude.{◌↔◌}
 use Rattle.mn_model.specs.Problem.{Problem}

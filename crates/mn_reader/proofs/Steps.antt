@@ -1,17 +1,12 @@
 -- What the lines at the front of a text say of all that it leads to.
-use Rattle.std.proofs.Common.{◌≡◌, ℕ, ◌<◌, ◌⊎◌, List, [], ◌∷◌, ◌++◌, length, codes, None, Some, refl, sym, ap, ◌∙◌, subst, inl, inr, arith, append_assoc}
+use Rattle.std.proofs.Common.{◌≡◌, ℕ, List, ◌∷◌, ◌++◌, codes, refl, sym, ap, ◌∙◌, subst, append_assoc}
 use Rattle.std.specs.List.{flat_map}
 use Rattle.std.specs.Prelude.{◌↔◌}
-use Rattle.mn_model.specs.Name.{continues_name, IsName}
-use Rattle.mn_model.specs.Problem.{Problem, declared_as, variable_count, variable_in}
-use Rattle.mn_model.specs.declared.constraint.Con.{Con}
-use Rattle.mn_model.specs.declared.constraint.Con.TheVariants.{Eq, Diseq}
-use Rattle.mn_model.specs.declared.constraint.Term.TheVariants.{Var}
-use Rattle.mn_model.specs.declared.limits.TheConstants.{VARIABLES, CONSTRAINTS}
-use Rattle.mn_model.specs.declared.variable.VarId.{VarId}
+use Rattle.mn_model.specs.Name.{IsName}
+use Rattle.mn_model.specs.Problem.{Problem}
 use Rattle.mn_reader.proofs.Cutting.{cut_once, one_head, Lacks-name}
-use Rattle.mn_reader.specs.Left.{DeclaresText, ConstrainsText, IsPair, MayDeclare}
-use Rattle.mn_reader.specs.Reads.{Line, title, variables, bool, constraints, eq, diseq, end, spelling, nothing, with_bool, with_con, Names, Declares, Constrains, Starts, Reads}
+use Rattle.mn_reader.specs.Left.{DeclaresText, ConstrainsText, MayDeclare}
+use Rattle.mn_reader.specs.Reads.{Line, title, variables, bool, constraints, spelling, nothing, with_bool, Declares, Starts, Reads}
 
 -- a text begins with its title and the line of the variables
 started : (lines : List Line) (r : Problem) → Starts lines r → (others : List Line) × (lines ≡ title ∷ variables ∷ others) × Declares nothing others r
@@ -59,13 +54,14 @@ bool_there p text name more r named written (is_constraints after e d) = absurd 
 
 -- the line of a variable
 pub bool_step : (p : Problem) (text name more : List ℕ) (r : Problem) → IsName name → text ≡ codes "BOOL " ++ (name ++ 10 ∷ more) → DeclaresText p text r ↔ (MayDeclare p name × DeclaresText (with_bool p name) more r)
-bool_step p text name more r named written =
-    (λ d. bool_there p text name more r named written (declares_case p text r d),
-    λ h. record {
-      lines = bool name ∷ h.1.lines;
-      spelled = written ∙ (ap (λ rest. codes "BOOL " ++ (name ++ 10 ∷ rest)) h.1.spelled ∙ sym (spelled_bool name (flat_map spelling h.1.lines)));
-      leads = (named, h.0.0, h.0.1, h.1.leads);
-    })
+bool_step p text name more r named written = (
+  λ d. bool_there p text name more r named written (declares_case p text r d),
+  λ h. record {
+    lines = bool name ∷ h.1.lines;
+    spelled = written ∙ (ap (λ rest. codes "BOOL " ++ (name ++ 10 ∷ rest)) h.1.spelled ∙ sym (spelled_bool name (flat_map spelling h.1.lines)));
+    leads = (named, h.0.0, h.0.1, h.1.leads);
+  },
+)
 
 nameless : (p : Problem) (text rest : List ℕ) (r : Problem) → text ≡ codes "BOOL " ++ rest → ((name more : List ℕ) → IsName name → rest ≡ name ++ 10 ∷ more → ⊥) → DeclaresCase p text r → ⊥
 nameless p text rest r written none (is_bool other after named e may d) = none other after named (let both = sym written ∙ e in cc)
@@ -82,9 +78,10 @@ constraints_there p text rest r written (is_constraints after e d) =
 
 -- the line behind the declarations
 pub constraints_step : (p : Problem) (text rest : List ℕ) (r : Problem) → text ≡ codes "**CONSTRAINTS**\n" ++ rest → DeclaresText p text r ↔ ConstrainsText p rest r
-constraints_step p text rest r written =
-    (λ d. constraints_there p text rest r written (declares_case p text r d),
-    λ d. record { lines = constraints ∷ d.lines; spelled = written ∙ ap (λ more. codes "**CONSTRAINTS**\n" ++ more) d.spelled; leads = d.leads })
+constraints_step p text rest r written = (
+  λ d. constraints_there p text rest r written (declares_case p text r d),
+  λ d. record { lines = constraints ∷ d.lines; spelled = written ∙ ap (λ more. codes "**CONSTRAINTS**\n" ++ more) d.spelled; leads = d.leads },
+)
 
 lineless : (p : Problem) (text : List ℕ) (r : Problem) → ((more : List ℕ) → text ≡ codes "BOOL " ++ more → ⊥) → ((more : List ℕ) → text ≡ codes "**CONSTRAINTS**\n" ++ more → ⊥) → DeclaresCase p text r → ⊥
 lineless p text r no_bool no_end (is_bool name after named e may d) = no_bool (name ++ 10 ∷ after) e

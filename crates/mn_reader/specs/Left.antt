@@ -1,5 +1,5 @@
 -- What is left of a text, on the way through it.
-use Rattle.std.specs.Prelude.{◌≡◌, ℕ, ◌<◌, ◌⊎◌, List, [], ◌∷◌, ◌++◌, None, codes}
+use Rattle.std.specs.Prelude.{◌≡◌, ℕ, ◌<◌, ◌⊎◌, List, ◌++◌, None, codes}
 use Rattle.std.specs.List.{AllByRecursion, flat_map}
 use Rattle.mn_model.specs.Problem.{Problem, declared_as, variable_count}
 use Rattle.mn_model.specs.declared.limits.TheConstants.{VARIABLES}

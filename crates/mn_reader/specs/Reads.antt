@@ -1,5 +1,5 @@
 -- The texts of the language, and the instances that they stand for: by cases on lines.
-use Rattle.std.specs.Prelude.{◌≡◌, ℕ, ◌<◌, ℤ, pos, List, [], ◌∷◌, ◌++◌, length, Some, None, codes}
+use Rattle.std.specs.Prelude.{◌≡◌, ℕ, ◌<◌, pos, List, [], ◌∷◌, ◌++◌, length, Some, None, codes}
 use Rattle.std.specs.List.{flat_map}
 use Rattle.mn_model.specs.Domain.{stretch}
 use Rattle.mn_model.specs.Name.{IsName}
@@ -39,7 +39,7 @@ nothing = record { decls = []; cons = [] }
 -- with one more variable of the values 0 and 1
 abbrev pub with_bool : Problem → List ℕ → Problem
 with_bool p name = record p {
-  decls = p.decls ++ record { name = name; dims = []; kind = Binary; domain = stretch (pos 0) (pos 1); first = variable (variable_count p.decls) } ∷ []
+  decls = p.decls ++ record { name = name; dims = []; kind = Binary; domain = stretch (pos 0) (pos 1); first = variable (variable_count p.decls) } ∷ [];
 }
 
 -- with one more constraint

@@ -1,4 +1,12 @@
 //! The reader: the instance that a text stands for, or the refusal of a text that stands for none.
+//!
+//! The language has a line for each thing that it says: the title `MINION 3`, `**VARIABLES**`, a `BOOL name` for
+//! each variable, `**CONSTRAINTS**`, an `eq(name,name)` or a `diseq(name,name)` for each constraint, and
+//! `**EOF**`. `Reads` of `specs/` says which texts those are, and which instance each stands for. Where memory
+//! suffices, `read` answers that instance for each of them, refuses a text that is too long as that, and refuses
+//! every other text as unsupported. A byte is looked at a small constant number of times.
+//!
+//! The crate stands on std and on `mn_model`, whose `Instance` it makes.
 #![tactic(auto)]
 
 ghost use Rattle.std.specs.Prelude.{◌≡◌, ◌<◌, ◌≤◌, ◌⊎◌, ◌↔◌, length, IfErr, IfOk, IsOkAnd, Err};
@@ -41,4 +49,88 @@ fn instance_of(alloc: Global, text: &[u8]) -> Result<Instance, Refusal>
     let rest = declarations(alloc, &mut instance, rest)?;
     constraints(&mut instance, rest)?;
     Ok(instance)
+}
+
+#[cfg(test)]
+mod tests {
+    use super::*;
+    use std::test::Fail;
+
+    /// How many variables and constraints the text has.
+    fn counts(alloc: Global, text: &[u8]) -> Result<(u32, usize), Refusal> {
+        let instance = read(alloc, text)?;
+        Ok((instance.vars(), instance.cons().len()))
+    }
+
+    #[test]
+    fn texts(rt: HostRuntime) -> Result<(), Fail> {
+        let refused = Err(Refusal::Unsupported(0));
+        let table = [
+            (
+                "MINION 3\n**VARIABLES**\nBOOL x\nBOOL y\n**CONSTRAINTS**\n**EOF**\n",
+                Ok((2, 0)),
+            ),
+            (
+                "MINION 3\n**VARIABLES**\nBOOL x\nBOOL _y2\n**CONSTRAINTS**\ndiseq(x,_y2)\n**EOF**\n",
+                Ok((2, 1)),
+            ),
+            (
+                "MINION 3\n**VARIABLES**\nBOOL x\n**CONSTRAINTS**\neq(x,x)\ndiseq(x,x)\n**EOF**\n",
+                Ok((1, 2)),
+            ),
+            (
+                "MINION 3\n**VARIABLES**\n**CONSTRAINTS**\n**EOF**\n",
+                Ok((0, 0)),
+            ),
+            // without the last line
+            (
+                "MINION 3\n**VARIABLES**\nBOOL x\n**CONSTRAINTS**\n",
+                refused,
+            ),
+            // a name declared twice
+            (
+                "MINION 3\n**VARIABLES**\nBOOL x\nBOOL x\n**CONSTRAINTS**\n**EOF**\n",
+                refused,
+            ),
+            // a name that isn't declared
+            (
+                "MINION 3\n**VARIABLES**\nBOOL x\n**CONSTRAINTS**\neq(x,y)\n**EOF**\n",
+                refused,
+            ),
+            // no LF at the end
+            ("MINION 3\n**VARIABLES**\n**CONSTRAINTS**\n**EOF**", refused),
+            // CR and LF
+            (
+                "MINION 3\r\n**VARIABLES**\r\n**CONSTRAINTS**\r\n**EOF**\r\n",
+                refused,
+            ),
+            // past ASCII
+            (
+                "MINION 3\n**VARIABLES**\nBOOL \u{e9}\n**CONSTRAINTS**\n**EOF**\n",
+                refused,
+            ),
+            (
+                "MINION 3\n**VARIABLES**\nBOOL x\0\n**CONSTRAINTS**\n**EOF**\n",
+                refused,
+            ),
+            (
+                "MINION 3\n**VARIABLES**\nBOOL _\n**CONSTRAINTS**\n**EOF**\n",
+                refused,
+            ),
+            (
+                "MINION 3\n**VARIABLES**\nBOOL 2x\n**CONSTRAINTS**\n**EOF**\n",
+                refused,
+            ),
+            // something behind the last line
+            (
+                "MINION 3\n**VARIABLES**\n**CONSTRAINTS**\n**EOF**\n\n",
+                refused,
+            ),
+            ("", refused),
+        ];
+        for (text, wanted) in table {
+            assert_eq!(rt; counts(rt.alloc(), text.as_bytes()), wanted, "in {text:?}");
+        }
+        Ok(())
+    }
 }

@@ -1,4 +1,4 @@
-ghost use Rattle.std.specs.Prelude.{◌≡◌, ◌<◌, ◌↔◌, ℕ, List, length, codes, IfErr, IfNone, IfOk, IfSome, OnOk};
+ghost use Rattle.std.specs.Prelude.{◌≡◌, ◌<◌, ◌≤◌, ◌↔◌, ℕ, List, length, codes, IsTrue, IfErr, IfNone, IfOk, IfSome, OnOk};
 ghost use Rattle.mn_model.specs.Name.{IsName};
 ghost use Rattle.mn_model.specs.Problem.{Problem, IsLawfulCon, domains_of, variable_count};
 ghost use Rattle.mn_model.specs.Variable.{number_of};
@@ -102,6 +102,13 @@ fn constraint<'a>(instance: &Instance, text: &'a [u8]) -> Option<(Con, &'a [u8])
     }
 }
 
+/// Whether there may be no more constraints.
+fn is_full(instance: &Instance) -> bool
+    ensures { IsTrue result ↔ (CONSTRAINTS ≤ length instance.now.cons) }
+{
+    instance.cons().len() as u64 >= CONSTRAINTS
+}
+
 /// Adds what the text's constraints say, up to the line that ends the text.
 pub fn constraints(instance: &mut Instance, text: &[u8]) -> Result<(), Refusal>
     ensures ok { OnOk result ((r : Problem) → ConstrainsText instance.old text.now r ↔ (r ≡ instance.new)) }
@@ -109,7 +116,7 @@ pub fn constraints(instance: &mut Instance, text: &[u8]) -> Result<(), Refusal>
 {
     let mut rest = text;
     while let Some((con, more)) = constraint(instance, rest) {
-        if instance.cons().len() as u64 >= CONSTRAINTS {
+        if is_full(instance) {
             return Err(Refusal::Unsupported(0));
         }
         instance.add(con)?;

@@ -1,4 +1,4 @@
-use Rattle.std.proofs.Common.{◌≡◌, refl, inr}
+use Rattle.std.proofs.Common.{refl, inr}
 use Rattle.std.proofs.lemmas.Result.{err_from_is_err_and}
 use Rattle.mn_reader.proofs.Refusing.{Refuses-weaker, begun}
 use Rattle.mn_reader.proofs.instance_of.Goals as goal
@@ -14,8 +14,11 @@ returns-in_err-rest-clause-refuses c =
 pub returns-in_err-constraints-clause-refuses : goal.returns-in_err-constraints-clause-refuses
 returns-in_err-constraints-clause-refuses c =
     let p = err_from_is_err_and c.from_residual-in_err-constraints.result c.from_residual-in_err-constraints.ensures.1 in
-    rw (p.1, p.2) (Refuses-weaker _ _ _ (λ h. (h.0, (c.in_ok-rest.ensures.ok h.0).0
-    ((begun c.args.text.now c.in-Some.rest.now c.in_ok-instance.instance h.0 c.in_ok-instance.ensures.0 c.in_ok-instance.ensures.1 (c.in-Some.ensures.found h.0)).0 h.1))) c.in_err-constraints.ensures.err)
+    rw (p.1, p.2) (Refuses-weaker _ _ _ (λ h. (
+      h.0,
+      (c.in_ok-rest.ensures.ok h.0).0
+          ((begun c.args.text.now c.in-Some.rest.now c.in_ok-instance.instance h.0 c.in_ok-instance.ensures.0 c.in_ok-instance.ensures.1 (c.in-Some.ensures.found h.0)).0 h.1),
+    )) c.in_err-constraints.ensures.err)
 
 pub returns-clause-only : goal.returns-clause-only
 returns-clause-only c = λ r.

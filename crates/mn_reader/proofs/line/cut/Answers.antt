@@ -1,4 +1,4 @@
-use Rattle.std.proofs.Common.{◌≡◌, ◌+◌, ◌-◌, ◌++◌, ◌∷◌, take, drop, length, take_all, length-drop, sym, ◌∙◌, ap, arith}
+use Rattle.std.proofs.Common.{◌≡◌, ◌+◌, ◌-◌, take, drop, length, take_all, length-drop, sym, arith}
 use Rattle.mn_reader.proofs.Cutting.{cut_at, uncut_at}
 use Rattle.mn_reader.proofs.line.cut.Goals as goal
 

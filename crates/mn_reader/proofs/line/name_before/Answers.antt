@@ -1,4 +1,4 @@
-use Rattle.std.proofs.Common.{◌≡◌, ◌++◌, ◌∷◌, sym, ◌∙◌, subst}
+use Rattle.std.proofs.Common.{sym, ◌∙◌, subst}
 use Rattle.mn_model.specs.Name.{IsName}
 use Rattle.mn_reader.proofs.Cutting.{cut_once, uncut, Lacks-name}
 use Rattle.mn_reader.proofs.line.name_before.Goals as goal

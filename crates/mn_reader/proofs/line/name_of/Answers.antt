@@ -1,4 +1,4 @@
-use Rattle.std.proofs.Common.{List, ℕ, Result, Ok, Err, Bor}
+use Rattle.std.proofs.Common.{List, ℕ, Result, Ok, Err}
 use Rattle.std.specs.Option.{IfNone}
 use Rattle.std.specs.Result.{MatchResult, result_ok}
 use Rattle.std.specs.Str.{IsUtf8}

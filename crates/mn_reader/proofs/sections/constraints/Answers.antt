@@ -1,15 +1,17 @@
-use Rattle.std.proofs.Common.{◌≡◌, length, refl, sym, ◌∙◌, ap, arith, inr, true≢false}
+use Rattle.std.proofs.Common.{refl, sym, ◌∙◌, arith, inr, true≢false}
 use Rattle.std.proofs.lemmas.Bool.Decides.{Decides-eqb}
 use Rattle.std.proofs.lemmas.Slice.Eq.{slice_eq-Decides}
-use Rattle.mn_model.specs.declared.limits.TheConstants.{CONSTRAINTS}
 use Rattle.mn_reader.proofs.Asks.{end_step}
 use Rattle.mn_reader.proofs.sections.constraints.Goals as goal
 
-pub returns-then-cons-ge-CONSTRAINTS-clause-err : goal.returns-then-cons-ge-CONSTRAINTS-clause-err
-returns-then-cons-ge-CONSTRAINTS-clause-err c =
-    inr (refl, λ h.
-    let room = ((c.in-Some.ensures.found h.0).0 ((c.loop-con.invariant h.0).0 h.1)).0 in
-    omega (arith, ap length c.cons.ensures))
+pub returns-then-is_full-clause-err : goal.returns-then-is_full-clause-err
+returns-then-is_full-clause-err c =
+    inr (
+      refl,
+      λ h.
+          let room = ((c.in-Some.ensures.found h.0).0 ((c.loop-con.invariant h.0).0 h.1)).0 in
+          omega (arith, c.is_full.ensures.0 c.if-is_full.true),
+    )
 
 pub returns-then-eq-clause-ok : goal.returns-then-eq-clause-ok
 returns-then-eq-clause-ok c = λ r.
@@ -20,7 +22,10 @@ returns-then-eq-clause-ok c = λ r.
 
 pub returns-else-eq-clause-err : goal.returns-else-eq-clause-err
 returns-else-eq-clause-err c =
-    inr (refl, λ h.
-    let same = slice_eq-Decides Decides-eqb c.loop-con.rest.now c.as_slice.result.now c.eq.result c.eq.ensures in
-    let last = c.in_default.ensures.none h.0 ((c.loop-con.invariant h.0).0 h.1) in
-    true≢false (sym (same.1 (last ∙ sym c.as_slice.ensures)) ∙ c.if-eq.false))
+    inr (
+      refl,
+      λ h.
+          let same = slice_eq-Decides Decides-eqb c.loop-con.rest.now c.as_slice.result.now c.eq.result c.eq.ensures in
+          let last = c.in_default.ensures.none h.0 ((c.loop-con.invariant h.0).0 h.1) in
+          true≢false (sym (same.1 (last ∙ sym c.as_slice.ensures)) ∙ c.if-eq.false),
+    )

@@ -1,4 +1,4 @@
-use Rattle.std.proofs.Common.{◌≡◌, ◌++◌, codes, sym, ◌∙◌, ap}
+use Rattle.std.proofs.Common.{◌++◌, codes, sym, ◌∙◌, ap}
 use Rattle.mn_reader.proofs.Refusing.{some_of, none_of}
 use Rattle.mn_reader.proofs.Steps.{headed, heading_step}
 use Rattle.mn_reader.proofs.sections.heading.Goals as goal

@@ -1,4 +1,4 @@
-use Rattle.std.proofs.Common.{◌≡◌, ◌++◌, [], codes, None, Some, sym, ◌∙◌, ap}
+use Rattle.std.proofs.Common.{◌≡◌, ◌++◌, [], codes, None, Some, ◌∙◌, ap}
 use Rattle.mn_model.specs.Problem.{declared_as, variable_in}
 use Rattle.mn_reader.proofs.Asks.{first_name, second_name}
 use Rattle.mn_reader.proofs.sections.pair.Goals as goal

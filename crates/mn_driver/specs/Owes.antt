@@ -1,0 +1,24 @@
+-- The words of the clauses of a run.
+use Rattle.std.specs.Prelude.{◌≡◌, ℕ, ◌≤◌, ◌⊎◌, List, [], length, Option}
+use Rattle.mn_model.specs.Problem.{Problem}
+use Rattle.mn_model.specs.Solutions.{listed}
+use Rattle.mn_outside.specs.Content.{FileMap}
+use Rattle.mn_driver.specs.Report.{capped, memory_line, report}
+use Rattle.mn_driver.specs.Runs.{AddsLine, IsTheModel}
+use Rattle.mn_driver.specs.Written.{IsFrontOf}
+use Rattle.mn_driver.specs.declared.status.Status.{Status}
+use Rattle.mn_driver.specs.declared.status.Status.TheVariants.{Complete, WriteFault, ReadFault, NoMemory}
+
+-- the status is the expected one, unless reading failed or memory ran out
+abbrev pub Yields : Status → Status → Type 0
+Yields status expected = (status ≡ expected) ⊎ (status ≡ ReadFault) ⊎ (status ≡ NoMemory)
+
+-- the status of a run whose file holds a model
+abbrev pub IsModelStatus : Status → Type 0
+IsModelStatus status = (status ≡ Complete) ⊎ (status ≡ WriteFault) ⊎ (status ≡ ReadFault) ⊎ (status ≡ NoMemory)
+
+-- what was written before memory ran out: nothing, or a front of the report
+abbrev pub StoppedAt : Option FileMap → List ℕ → List ℕ → ℕ → Type 0
+StoppedAt told name done solutions =
+    ((done ≡ []) × (solutions ≡ 0))
+    ⊎ ((p : Problem) × IsTheModel told name p × IsFrontOf done (report p) × (solutions ≤ capped (length (listed p))))
