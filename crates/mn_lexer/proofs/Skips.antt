@@ -1,0 +1,30 @@
+-- The steps of a loop over a gap.
+use Rattle.std.proofs.Common.{◌≡◌, ℕ, suc, zero, ◌+◌, ◌<◌, ◌≤◌, Bool, true, false, List, [], ◌∷◌, eqb, length, take, drop, get_or, refl, sym, ap, ◌∙◌, subst, ⊎_elim, arith}
+use Rattle.std.specs.List.{position_or_len}
+use Rattle.std.proofs.Math.Numerals.{one-add}
+use Rattle.std.proofs.lemmas.Bool.{cases_Bool, eqb-true, ne_eqb}
+use Rattle.std.proofs.lemmas.List.{drop_more}
+use Rattle.mn_lexer.specs.Bytes.{is_blank, is_line_feed, begins_comment}
+use Rattle.mn_lexer.specs.Gaps.{gap, gap_in_comment}
+
+-- a comment goes on to its line feed, which is a blank
+pub gap_in_comment_is : (bs : List ℕ) → gap_in_comment bs ≡ position_or_len is_line_feed bs + gap (drop (position_or_len is_line_feed bs) bs)
+gap_in_comment_is [] = refl
+gap_in_comment_is (b ∷ bs) =
+    ⊎_elim
+    (λ feed. rw (eqb-true b 10 feed) (omega arith))
+    (λ other.
+        let count = position_or_len is_line_feed bs in
+        let rest : drop (1 + count) (b ∷ bs) ≡ drop count bs = ap (λ n. drop n (b ∷ bs)) (one-add count) in
+        rw other (omega (arith, ap gap rest, gap_in_comment_is bs)))
+    (cases_Bool (is_line_feed b))
+
+module _ (s : List ℕ) (n : ℕ) (within : n < length s) where
+  pub gap_at_blank : is_blank (get_or s n 0) ≡ true → gap (drop n s) ≡ 1 + gap (drop (n + 1) s)
+  gap_at_blank blank = rw (drop_more s n 0 within) (rw blank refl)
+
+  pub gap_at_comment : is_blank (get_or s n 0) ≡ false → get_or s n 0 ≡ 35 → gap (drop n s) ≡ 1 + gap_in_comment (drop (n + 1) s)
+  gap_at_comment other hash = rw (drop_more s n 0 within) (rw hash refl)
+
+  pub gap_at_other : is_blank (get_or s n 0) ≡ false → (get_or s n 0 ≡ 35 → ⊥) → gap (drop n s) ≡ 0
+  gap_at_other other hash = rw (drop_more s n 0 within) (rw (other, ne_eqb (get_or s n 0) 35 hash) refl)
