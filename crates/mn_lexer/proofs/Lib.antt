@@ -4,3 +4,5 @@ pub mod Words
 pub mod Markings
 pub mod Heads
 pub mod Skips
+pub mod Numerals
+pub mod Readings

@@ -1,9 +1,10 @@
 -- The steps of a loop over a gap.
-use Rattle.std.proofs.Common.{◌≡◌, ℕ, suc, zero, ◌+◌, ◌<◌, ◌≤◌, Bool, true, false, List, [], ◌∷◌, eqb, length, take, drop, get_or, refl, sym, ap, ◌∙◌, subst, ⊎_elim, arith}
+use Rattle.std.proofs.Common.{◌≡◌, ℕ, suc, zero, ◌+◌, ◌-◌, ◌<◌, ◌≤◌, Bool, true, false, not, List, [], ◌∷◌, eqb, length, take, drop, get_or, refl, sym, ap, ◌∙◌, subst, ⊎_elim, arith}
 use Rattle.std.specs.List.{position_or_len}
 use Rattle.std.proofs.Math.Numerals.{one-add}
 use Rattle.std.proofs.lemmas.Bool.{cases_Bool, eqb-true, ne_eqb}
-use Rattle.std.proofs.lemmas.List.{drop_more}
+use Rattle.std.proofs.lemmas.List.{drop_more, drop-drop, take_rest, length-drop}
+use Rattle.std.proofs.lemmas.List.Sums.{prefix_len-le-length}
 use Rattle.mn_lexer.specs.Bytes.{is_blank, is_line_feed, begins_comment}
 use Rattle.mn_lexer.specs.Gaps.{gap, gap_in_comment}
 
@@ -28,3 +29,12 @@ module _ (s : List ℕ) (n : ℕ) (within : n < length s) where
 
   pub gap_at_other : is_blank (get_or s n 0) ≡ false → (get_or s n 0 ≡ 35 → ⊥) → gap (drop n s) ≡ 0
   gap_at_other other hash = rw (drop_more s n 0 within) (rw (other, ne_eqb (get_or s n 0) 35 hash) refl)
+
+  -- n moves behind the comment, by q bytes behind its `#`
+  pub skip_comment : (q : ℕ) → q ≡ position_or_len is_line_feed (take (length s - (n + 1)) (drop (n + 1) s)) → is_blank (get_or s n 0) ≡ false → get_or s n 0 ≡ 35 → (n + 1 + q ≤ length s) × (1 + q + gap (drop (n + 1 + q) s) ≡ gap (drop n s))
+  skip_comment q e other hash =
+      let count : q ≡ position_or_len is_line_feed (drop (n + 1) s) = e ∙ ap (position_or_len is_line_feed) (take_rest s (n + 1)) in
+      let bound = prefix_len-le-length (λ b. not (is_line_feed b)) (drop (n + 1) s) in
+      let behind : drop q (drop (n + 1) s) ≡ drop (n + 1 + q) s = drop-drop q (n + 1) s in
+      let gaps : gap_in_comment (drop (n + 1) s) ≡ q + gap (drop q (drop (n + 1) s)) = subst (λ x. gap_in_comment (drop (n + 1) s) ≡ x + gap (drop x (drop (n + 1) s))) (sym count) (gap_in_comment_is (drop (n + 1) s)) in
+      (omega (arith, length-drop (n + 1) s), omega (arith, gaps, ap gap behind, gap_at_comment other hash))

@@ -1,5 +1,5 @@
 // What stands at the front of the rest of a text: a gap, and the longest token.
-ghost use Rattle.std.specs.Prelude.{◌≡◌, ◌+◌, ◌<◌, length, Some, slice_index, MatchOption};
+ghost use Rattle.std.specs.Prelude.{◌≡◌, ◌+◌, ◌<◌, ◌≤◌, length, Some, slice_index, MatchOption};
 ghost use Rattle.std.specs.List.{prefix_len, position_or_len};
 ghost use Rattle.std.specs.Char.{is_ascii_digit, is_ascii_uppercase};
 ghost use Rattle.mn_lexer.specs.Bytes.{is_word_byte, is_line_feed};
@@ -39,7 +39,8 @@ fn comment_bytes(rest: &[u8]) -> usize
 
 // How many bytes of blanks and comments there are.
 pub fn gap(rest: &[u8]) -> usize
-    ensures { result ≡ gap rest.now }
+    ensures length { result ≡ gap rest.now }
+    ensures in_range { result ≤ length rest.now }
 {
     let mut n = 0;
     while n < rest.len() {
