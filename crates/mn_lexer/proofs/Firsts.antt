@@ -5,8 +5,10 @@ use Rattle.std.specs.List.{list_all}
 use Rattle.std.specs.Char.{is_ascii_digit}
 use Rattle.std.proofs.lemmas.Bool.{cases_Bool, and_parts, and_from, eqb-true}
 use Rattle.std.proofs.lemmas.Bool.Decides.{nat_tests}
-use Rattle.mn_lexer.specs.FirstBytes.{kind_of_first}
-use Rattle.mn_lexer.specs.Bytes.{is_word_start}
+use Rattle.mn_lexer.specs.FirstBytes.{kind_of_first, IsOfClass}
+use Rattle.mn_lexer.specs.declared.classes.Class.{Class}
+use Rattle.mn_lexer.specs.declared.classes.Class.TheVariants as class
+use Rattle.mn_lexer.specs.Bytes.{is_word_start, is_blank, begins_comment}
 use Rattle.mn_lexer.specs.Forms.{HasForm, IsLongest, BeginsNoToken}
 use Rattle.mn_lexer.specs.Marks.{mark_text}
 use Rattle.mn_lexer.specs.declared.marks.Mark.{Mark}
@@ -80,3 +82,22 @@ begins_no_token bs k first none n other form =
 
 pub begins_nothing : (bs : List ℕ) → kind_of_first (get_or bs 0 0) ≡ None → BeginsNoToken bs
 begins_nothing bs first n k form = let again = kind_of_front k bs n form in cc
+
+-- what begins no gap: a byte of any other class
+pub in_no_gap : (k : Class) (b : ℕ) → IsOfClass k b → (k ≡ class.Blank → ⊥) → (k ≡ class.CommentStart → ⊥) → (is_blank b ≡ false) × (begins_comment b ≡ false)
+in_no_gap class.Blank b of no_blank no_comment = absurd (no_blank refl)
+in_no_gap class.CommentStart b of no_blank no_comment = absurd (no_comment refl)
+in_no_gap class.WordStart b of no_blank no_comment = (grind (arith, nat_tests), grind (arith, nat_tests))
+in_no_gap class.Digit b of no_blank no_comment = (grind (arith, nat_tests), grind (arith, nat_tests))
+in_no_gap class.Minus b of no_blank no_comment = rw of (refl, refl)
+in_no_gap class.Star b of no_blank no_comment = rw of (refl, refl)
+in_no_gap class.SingleMark b of no_blank no_comment = (grind (arith, nat_tests), grind (arith, nat_tests))
+in_no_gap class.Dot b of no_blank no_comment = rw of (refl, refl)
+in_no_gap class.Other b of no_blank no_comment = (of.1, of.2)
+
+-- a gap's bytes begin no token
+pub blank_first : (b : ℕ) → is_blank b ≡ true → kind_of_first b ≡ None
+blank_first b blank = grind (arith, nat_tests)
+
+pub comment_first : (b : ℕ) → begins_comment b ≡ true → kind_of_first b ≡ None
+comment_first b hash = rw (eqb-true b 35 hash) refl

@@ -79,6 +79,3 @@ longest_head (a ∷ b ∷ bs) first end at some fits second third fourth =
         (rw (first, second) (ap (λ x. 42 ∷ 42 ∷ x) (two_stars bs run (omega arith) (subst (λ x. get_or (a ∷ b ∷ bs) x 0 ≡ 42) third_at third) (subst (λ x. get_or (a ∷ b ∷ bs) x 0 ≡ 42) fourth_at fourth)))),
     )
     (λ m within form. let head = begins_head (a ∷ b ∷ bs) m form in let whole = length-take-le m (a ∷ b ∷ bs) within in omega arith)
-
-pub star_first : (bs : List ℕ) → kind_of_first (get_or bs 0 0) ≡ Some kind.Head → get_or bs 0 0 ≡ 42
-star_first bs first = ⊎_elim (λ yes. eqb-true (get_or bs 0 0) 42 yes) (λ no. absurd (grind (arith, nat_tests))) (cases_Bool (eqb (get_or bs 0 0) 42))

@@ -72,16 +72,10 @@ longest_single (b ∷ bs) single =
         (front_is_mark b (take m bs) form)
     ])
 
--- a mark that is not a single byte is two dots
-dot_first : (b : ℕ) → kind_of_first b ≡ Some kind.Mark → is_single_mark b ≡ false → b ≡ 46
-dot_first b first not_single =
-    ⊎_elim (λ yes. eqb-true b 46 yes) (λ no. absurd (grind (arith, nat_tests))) (cases_Bool (eqb b 46))
-
-pub longest_dots : (bs : List ℕ) → kind_of_first (get_or bs 0 0) ≡ Some kind.Mark → is_single_mark (get_or bs 0 0) ≡ false → 1 < length bs → get_or bs 1 0 ≡ 46 → IsLongest bs kind.Mark 2
-longest_dots [] first not_single long second = cc
-longest_dots (b ∷ []) first not_single long second = absurd (omega arith)
-longest_dots (b ∷ c ∷ bs) first not_single long second =
-    let dot = dot_first b first not_single in
+pub longest_dots : (bs : List ℕ) → get_or bs 0 0 ≡ 46 → 1 < length bs → get_or bs 1 0 ≡ 46 → IsLongest bs kind.Mark 2
+longest_dots [] dot long second = cc
+longest_dots (b ∷ []) dot long second = absurd (omega arith)
+longest_dots (b ∷ c ∷ bs) dot long second =
     longest_of_kind (b ∷ c ∷ bs) kind.Mark 2 (omega arith) (marks.Dots, cc)
     (elim [
       zero ↦ λ within form. omega arith
@@ -92,11 +86,10 @@ longest_dots (b ∷ c ∷ bs) first not_single long second =
     ])
 
 -- a dot that no other follows
-pub lone_dot : (bs : List ℕ) → kind_of_first (get_or bs 0 0) ≡ Some kind.Mark → is_single_mark (get_or bs 0 0) ≡ false → (get_or bs 1 0 ≡ 46 → ⊥) → BeginsNoToken bs
-lone_dot [] first not_single alone = cc
-lone_dot (b ∷ bs) first not_single alone =
-    let dot = dot_first b first not_single in
-    begins_no_token (b ∷ bs) kind.Mark first (elim [
+pub lone_dot : (bs : List ℕ) → get_or bs 0 0 ≡ 46 → (get_or bs 1 0 ≡ 46 → ⊥) → BeginsNoToken bs
+lone_dot [] dot alone = cc
+lone_dot (b ∷ bs) dot alone =
+    begins_no_token (b ∷ bs) kind.Mark (rw dot refl) (elim [
       zero ↦ λ form. nonempty kind.Mark form
     | suc n ↦ λ form. ⊎_elim
         (λ (none, other). other dot)

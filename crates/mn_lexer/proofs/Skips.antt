@@ -24,17 +24,17 @@ module _ (s : List ℕ) (n : ℕ) (within : n < length s) where
   pub gap_at_blank : is_blank (get_or s n 0) ≡ true → gap (drop n s) ≡ 1 + gap (drop (n + 1) s)
   gap_at_blank blank = rw (drop_more s n 0 within) (rw blank refl)
 
-  pub gap_at_comment : is_blank (get_or s n 0) ≡ false → get_or s n 0 ≡ 35 → gap (drop n s) ≡ 1 + gap_in_comment (drop (n + 1) s)
-  gap_at_comment other hash = rw (drop_more s n 0 within) (rw hash refl)
+  gap_at_comment : get_or s n 0 ≡ 35 → gap (drop n s) ≡ 1 + gap_in_comment (drop (n + 1) s)
+  gap_at_comment hash = rw (drop_more s n 0 within) (rw hash refl)
 
-  pub gap_at_other : is_blank (get_or s n 0) ≡ false → (get_or s n 0 ≡ 35 → ⊥) → gap (drop n s) ≡ 0
-  gap_at_other other hash = rw (drop_more s n 0 within) (rw (other, ne_eqb (get_or s n 0) 35 hash) refl)
+  pub gap_at_other : is_blank (get_or s n 0) ≡ false → begins_comment (get_or s n 0) ≡ false → gap (drop n s) ≡ 0
+  gap_at_other other hash = rw (drop_more s n 0 within) (rw (other, hash) refl)
 
   -- n moves behind the comment, by q bytes behind its `#`
-  pub skip_comment : (q : ℕ) → q ≡ position_or_len is_line_feed (take (length s - (n + 1)) (drop (n + 1) s)) → is_blank (get_or s n 0) ≡ false → get_or s n 0 ≡ 35 → (n + 1 + q ≤ length s) × (1 + q + gap (drop (n + 1 + q) s) ≡ gap (drop n s))
-  skip_comment q e other hash =
+  pub skip_comment : (q : ℕ) → q ≡ position_or_len is_line_feed (take (length s - (n + 1)) (drop (n + 1) s)) → begins_comment (get_or s n 0) ≡ true → (n + 1 + q ≤ length s) × (1 + q + gap (drop (n + 1 + q) s) ≡ gap (drop n s))
+  skip_comment q e hash =
       let count : q ≡ position_or_len is_line_feed (drop (n + 1) s) = e ∙ ap (position_or_len is_line_feed) (take_rest s (n + 1)) in
       let bound = prefix_len-le-length (λ b. not (is_line_feed b)) (drop (n + 1) s) in
       let behind : drop q (drop (n + 1) s) ≡ drop (n + 1 + q) s = drop-drop q (n + 1) s in
       let gaps : gap_in_comment (drop (n + 1) s) ≡ q + gap (drop q (drop (n + 1) s)) = subst (λ x. gap_in_comment (drop (n + 1) s) ≡ x + gap (drop x (drop (n + 1) s))) (sym count) (gap_in_comment_is (drop (n + 1) s)) in
-      (omega (arith, length-drop (n + 1) s), omega (arith, gaps, ap gap behind, gap_at_comment other hash))
+      (omega (arith, length-drop (n + 1) s), omega (arith, gaps, ap gap behind, gap_at_comment (eqb-true (get_or s n 0) 35 hash)))

@@ -16,13 +16,9 @@ use Rattle.mn_lexer.proofs.Firsts.{longest_of_kind, begins_no_token}
 use Rattle.mn_lexer.specs.declared.TokenKind.{TokenKind}
 use Rattle.mn_lexer.specs.declared.TokenKind.TheVariants as kind
 
-word_start : (b : ℕ) → kind_of_first b ≡ Some kind.Word → is_word_start b ≡ true
-word_start b first = ⊎_elim (λ yes. yes) (λ no. absurd (grind (arith, nat_tests))) (cases_Bool (is_word_start b))
-
-pub longest_word : (bs : List ℕ) → kind_of_first (get_or bs 0 0) ≡ Some kind.Word → IsLongest bs kind.Word (prefix_len is_word_byte bs)
-longest_word [] first = cc
-longest_word (b ∷ bs) first =
-    let start = word_start b first in
+pub longest_word : (bs : List ℕ) → is_word_start (get_or bs 0 0) ≡ true → IsLongest bs kind.Word (prefix_len is_word_byte bs)
+longest_word [] start = cc
+longest_word (b ∷ bs) start =
     let passes : is_word_byte b ≡ true = or_left _ _ (or_left _ _ start) in
     let count : prefix_len is_word_byte (b ∷ bs) ≡ suc (prefix_len is_word_byte bs) = rw passes (one-add _) in
     longest_of_kind (b ∷ bs) kind.Word (prefix_len is_word_byte (b ∷ bs))
@@ -55,8 +51,8 @@ no_signed_number : (bs : List ℕ) → prefix_len is_ascii_digit bs ≡ 0 → (n
 no_signed_number bs none zero form = omega (arith, form.0)
 no_signed_number bs none (suc n) form = let bound = length-take-le_run is_ascii_digit bs n form.1 in omega (arith, form.0)
 
-digit_start : (b : ℕ) → (b ≡ 45 → ⊥) → kind_of_first b ≡ Some kind.Number → is_ascii_digit b ≡ true
-digit_start b plain first = ⊎_elim (λ yes. yes) (λ no. absurd (grind (arith, nat_tests))) (cases_Bool (is_ascii_digit b))
+digit_not_minus : (b : ℕ) → is_ascii_digit b ≡ true → b ≡ 45 → ⊥
+digit_not_minus b digit minus = let off : is_ascii_digit b ≡ false = rw minus refl in cc
 
 -- the bytes of a front that begins with no `-` are all its digits
 plain_sign : (b : ℕ) (bs : List ℕ) → (b ≡ 45 → ⊥) → without_sign (b ∷ bs) ≡ b ∷ bs
@@ -91,6 +87,6 @@ lone_minus (b ∷ bs) minus none =
     (λ n form. no_signed_number bs none n (subst (λ x. IsNumber (take n (x ∷ bs))) minus form))
 
 -- the longest number with no sign
-pub longest_plain : (bs : List ℕ) → kind_of_first (get_or bs 0 0) ≡ Some kind.Number → (get_or bs 0 0 ≡ 45 → ⊥) → IsLongest bs kind.Number (prefix_len is_ascii_digit bs)
-longest_plain [] first plain = cc
-longest_plain (b ∷ bs) first plain = plain_number b bs plain (digit_start b plain first)
+pub longest_plain : (bs : List ℕ) → is_ascii_digit (get_or bs 0 0) ≡ true → IsLongest bs kind.Number (prefix_len is_ascii_digit bs)
+longest_plain [] digit = cc
+longest_plain (b ∷ bs) digit = plain_number b bs (digit_not_minus b digit) digit

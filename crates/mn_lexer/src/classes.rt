@@ -1,50 +1,41 @@
-// The classes of bytes.
+// The classes of bytes, by what they may begin.
 ghost use Rattle.std.specs.Prelude.{◌≡◌};
-ghost use Rattle.mn_lexer.specs.Bytes.{is_blank, is_word_start, is_word_byte};
-ghost use Rattle.mn_lexer.specs.FirstBytes.{is_single_mark, kind_of_first};
+ghost use Rattle.mn_lexer.specs.Bytes.{is_word_byte};
+ghost use Rattle.mn_lexer.specs.FirstBytes.{IsOfClass};
 
-use super::TokenKind;
-
-pub fn is_blank(byte: u8) -> bool
-    ensures { result ≡ is_blank byte }
-{
-    matches!(byte, b'\t' | b'\n' | b'\r' | b' ')
+#[derive(Clone, Copy)]
+pub enum Class {
+    Blank,
+    CommentStart,
+    WordStart,
+    Digit,
+    Minus,
+    Star,
+    SingleMark,
+    Dot,
+    Other,
 }
 
-pub fn is_word_start(byte: u8) -> bool
-    ensures { result ≡ is_word_start byte }
+pub fn class_of(byte: u8) -> Class
+    ensures { IsOfClass result byte }
 {
-    byte.is_ascii_alphabetic() || byte == b'_'
+    match byte {
+        b'A'..=b'Z' | b'_' | b'a'..=b'z' => Class::WordStart,
+        b'0'..=b'9' => Class::Digit,
+        b'[' | b']' | b'{' | b'}' | b'(' | b')' | b'<' | b'>' | b',' | b'=' | b'!' => {
+            Class::SingleMark
+        }
+        b'\t' | b'\n' | b'\r' | b' ' => Class::Blank,
+        b'.' => Class::Dot,
+        b'-' => Class::Minus,
+        b'*' => Class::Star,
+        b'#' => Class::CommentStart,
+        _ => Class::Other,
+    }
 }
 
 pub fn is_word_byte(byte: u8) -> bool
     ensures { result ≡ is_word_byte byte }
 {
-    is_word_start(byte) || byte.is_ascii_digit() || byte == b'-'
-}
-
-pub fn is_single_mark(byte: u8) -> bool
-    ensures { result ≡ is_single_mark byte }
-{
-    matches!(
-        byte,
-        b'[' | b']' | b'{' | b'}' | b'(' | b')' | b'<' | b'>' | b',' | b'=' | b'!'
-    )
-}
-
-// The kind of the tokens that begin with this byte.
-pub fn kind_of_first(byte: u8) -> Option<TokenKind>
-    ensures { result ≡ kind_of_first byte }
-{
-    if is_word_start(byte) {
-        Some(TokenKind::Word)
-    } else if byte.is_ascii_digit() || byte == b'-' {
-        Some(TokenKind::Number)
-    } else if byte == b'*' {
-        Some(TokenKind::Head)
-    } else if is_single_mark(byte) || byte == b'.' {
-        Some(TokenKind::Mark)
-    } else {
-        None
-    }
+    byte.is_ascii_alphanumeric() || byte == b'_' || byte == b'-'
 }

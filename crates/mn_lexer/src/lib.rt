@@ -8,13 +8,15 @@
 //! The crate stands on std alone.
 #![tactic(auto)]
 
-ghost use Rattle.std.specs.Prelude.{◌≡◌, ◌+◌, ◌≤◌, ◌<◌, length, IfOk, drop, All};
-ghost use Rattle.mn_lexer.specs.Reading.{IsLexed, IsTokenOf, OneReading, is_end};
+ghost use Rattle.std.specs.Prelude.{◌≡◌, ◌+◌, ◌≤◌, ◌<◌, length, slice_index, IfOk, All};
+ghost use Rattle.mn_lexer.specs.FirstBytes.{IsOfClass};
+ghost use Rattle.mn_lexer.specs.Reading.{IsLexed, IsTokenOf, OneReading, is_end, next_place};
 ghost use Rattle.mn_lexer.specs.Next.{IsNextFrom};
 
 use std::alloc::Global;
 
-use fronts::{front, gap};
+use classes::{Class, class_of};
+use fronts::{comment_bytes, front};
 use numbers::is_within_limit;
 
 mod classes;
@@ -73,17 +75,16 @@ enum Next {
     Stop(Option<LexFault>),
 }
 
-fn next_from(text: &[u8], from: usize) -> Next
+// What stands at a place that is in no gap, where the byte is of this class.
+fn token_at(text: &[u8], at: usize, class: Class) -> Next
     requires size { length text.now ≤ TEXT_LIMIT }
-    requires in_text { from ≤ length text.now }
-    ensures { IsNextFrom text.now from result }
+    requires in_text { at < length text.now }
+    requires of_class { IsOfClass class (slice_index text.now at) }
+    requires in_no_gap { next_place text.now at ≡ at }
+    ensures { IsNextFrom text.now at result }
 {
-    let at = from + gap(&text[from..]);
-    if at == text.len() {
-        return Next::Stop(None);
-    }
     let rest = &text[at..];
-    let Some((kind, len)) = front(rest) else {
+    let Some((kind, len)) = front(rest, class) else {
         return Next::Stop(Some(LexFault::Lex(at as u64)));
     };
     if kind == TokenKind::Number && !is_within_limit(&rest[..len]) {
@@ -94,6 +95,22 @@ fn next_from(text: &[u8], from: usize) -> Next
         at: at as u32,
         len: len as u32,
     })
+}
+
+fn next_from(text: &[u8], from: usize) -> Next
+    requires size { length text.now ≤ TEXT_LIMIT }
+    requires in_text { from ≤ length text.now }
+    ensures { IsNextFrom text.now from result }
+{
+    let mut at = from;
+    while at < text.len() {
+        match class_of(text[at]) {
+            Class::Blank => at += 1,
+            Class::CommentStart => at = at + 1 + comment_bytes(&text[at + 1..]),
+            class => return token_at(text, at, class),
+        }
+    }
+    Next::Stop(None)
 }
 
 fn is_end(text: &[u8], token: Token) -> bool

@@ -4,7 +4,8 @@ use Rattle.std.specs.List.{prefix_len}
 use Rattle.std.proofs.lemmas.List.{take_rest, get_or_past}
 use Rattle.std.proofs.lemmas.List.Sums.{prefix_len-le-length}
 use Rattle.mn_lexer.proofs.Firsts.{begins_no_token}
-use Rattle.mn_lexer.proofs.Heads.{star_first, longest_head, begins_head}
+use Rattle.mn_lexer.proofs.Heads.{longest_head, begins_head}
+use Rattle.mn_lexer.specs.FirstBytes.{kind_of_first}
 use Rattle.mn_lexer.specs.declared.TokenKind.TheVariants as kind
 use Rattle.mn_lexer.proofs.fronts.head_len.Goals as goal
 use Rattle.mn_lexer.proofs.fronts.head_len.Goals.{After-capitals-end, then-rest-lt2-via-then-rest-lt2, then-rest-lt2-via-else-rest-lt2+then-rest-ne42, then-end-eq2-via-then-end-eq2, then-end-eq2-via-else-end-eq2+then-rest-end-lt2, then-end-eq2-via-else-end-eq2+else-rest-end-lt2+then-rest-end-ne42, then-end-eq2-via-else-end-eq2+else-rest-end-lt2+else-rest-end-ne42+then-rest-end-ne42-2}
@@ -27,7 +28,7 @@ overflow_sub-rest c =
 
 pub returns-then-rest-lt2 : goal.returns-then-rest-lt2
 returns-then-rest-lt2 c =
-    begins_no_token c.args.rest.now kind.Head c.requires
+    begins_no_token c.args.rest.now kind.Head (ap kind_of_first c.requires)
     (λ n form.
         let head = begins_head c.args.rest.now n form in
         elim c.then-rest-lt2.branch [
@@ -38,7 +39,7 @@ returns-then-rest-lt2 c =
 pub returns-then-end-eq2 : goal.returns-then-end-eq2
 returns-then-end-eq2 c =
     let count = count_is (goal.at.returns-then-end-eq2 c).After-capitals-end in
-    begins_no_token c.args.rest.now kind.Head c.requires
+    begins_no_token c.args.rest.now kind.Head (ap kind_of_first c.requires)
     (λ n form.
         let head = begins_head c.args.rest.now n form in
         elim c.then-end-eq2.branch [
@@ -53,4 +54,4 @@ returns-then-end-eq2 c =
 pub returns : goal.returns
 returns c =
     let count = count_is (goal.at.returns c).After-capitals-end in
-    longest_head c.args.rest.now (star_first c.args.rest.now c.requires) _ (ap (λ n. 2 + n) count) (omega arith) (omega arith) c.if-rest-ne42.false c.if-rest-end-ne42.false c.if-rest-end-ne42-2.false
+    longest_head c.args.rest.now c.requires _ (ap (λ n. 2 + n) count) (omega arith) (omega arith) c.if-rest-ne42.false c.if-rest-end-ne42.false c.if-rest-end-ne42-2.false

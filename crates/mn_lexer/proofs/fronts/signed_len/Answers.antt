@@ -3,9 +3,9 @@ use Rattle.std.specs.Char.{is_ascii_digit}
 use Rattle.std.specs.List.{prefix_len}
 use Rattle.std.proofs.lemmas.List.{take_rest}
 use Rattle.std.proofs.lemmas.List.Sums.{prefix_len-le-length}
-use Rattle.mn_lexer.proofs.Words.{longest_signed, lone_minus, longest_plain}
-use Rattle.mn_lexer.proofs.fronts.number_len.Goals as goal
-use Rattle.mn_lexer.proofs.fronts.number_len.Goals.{After-digits-count}
+use Rattle.mn_lexer.proofs.Words.{longest_signed, lone_minus}
+use Rattle.mn_lexer.proofs.fronts.signed_len.Goals as goal
+use Rattle.mn_lexer.proofs.fronts.signed_len.Goals.{After-digits-count}
 
 -- the digits behind the sign
 count_is : (c : After-digits-count) → c.digits-count.result ≡ prefix_len is_ascii_digit (drop 1 c.args.rest.now)
@@ -20,13 +20,10 @@ overflow_add-result c =
 pub returns-then-count-eq0 : goal.returns-then-count-eq0
 returns-then-count-eq0 c =
     let count = count_is (goal.at.returns-then-count-eq0 c).After-digits-count in
-    lone_minus c.args.rest.now c.if-rest-eq45.true (sym count ∙ c.if-count-eq0.true)
+    lone_minus c.args.rest.now c.requires (sym count ∙ c.if-count-eq0.true)
 
 pub returns-else-count-eq0 : goal.returns-else-count-eq0
 returns-else-count-eq0 c =
     let count = count_is (goal.at.returns-else-count-eq0 c).After-digits-count in
     let some = c.if-count-eq0.false in
-    rw count (longest_signed c.args.rest.now c.if-rest-eq45.true (omega arith))
-
-pub returns-else-rest-eq45 : goal.returns-else-rest-eq45
-returns-else-rest-eq45 c = rw c.digits.ensures (longest_plain c.args.rest.now c.requires c.if-rest-eq45.false)
+    rw count (longest_signed c.args.rest.now c.requires (omega arith))
