@@ -70,12 +70,11 @@ longest_head (a ∷ b ∷ bs) first end at some fits second third fourth =
     let third_at : end ≡ suc (suc run) = omega arith in
     let fourth_at : end + 1 ≡ suc (suc (run + 1)) = omega arith in
     let size : end + 2 ≡ suc (suc (run + 1 + 1)) = omega arith in
-    longest_of_kind (a ∷ b ∷ bs) kind.Head (end + 2) fits
-    (
-        take run bs,
-        rw (length-take-le run bs (omega arith)) (omega arith),
-        list_all-take-run is_ascii_uppercase bs,
-        subst (λ x. take x (a ∷ b ∷ bs) ≡ 42 ∷ 42 ∷ (take run bs ++ 42 ∷ 42 ∷ [])) (sym size)
-        (rw (first, second) (ap (λ x. 42 ∷ 42 ∷ x) (two_stars bs run (omega arith) (subst (λ x. get_or (a ∷ b ∷ bs) x 0 ≡ 42) third_at third) (subst (λ x. get_or (a ∷ b ∷ bs) x 0 ≡ 42) fourth_at fourth)))),
+    longest_of_kind (a ∷ b ∷ bs) kind.Head (end + 2) fits (
+      take run bs,
+      rw (length-take-le run bs (omega arith)) (omega arith),
+      list_all-take-run is_ascii_uppercase bs,
+      subst (λ x. take x (a ∷ b ∷ bs) ≡ 42 ∷ 42 ∷ (take run bs ++ 42 ∷ 42 ∷ [])) (sym size)
+          (rw (first, second) (ap (λ x. 42 ∷ 42 ∷ x) (two_stars bs run (omega arith) (subst (λ x. get_or (a ∷ b ∷ bs) x 0 ≡ 42) third_at third) (subst (λ x. get_or (a ∷ b ∷ bs) x 0 ≡ 42) fourth_at fourth)))),
     )
     (λ m within form. let head = begins_head (a ∷ b ∷ bs) m form in let whole = length-take-le m (a ∷ b ∷ bs) within in omega arith)

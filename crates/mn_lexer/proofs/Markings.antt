@@ -65,11 +65,11 @@ longest_single [] single = cc
 longest_single (b ∷ bs) single =
     longest_of_kind (b ∷ bs) kind.Mark 1 (omega arith) (single_is_mark b single)
     (elim [
-      zero ↦ λ within form. omega arith
-    | suc m ↦ λ within form. ⊎_elim
-        (λ (none, other). let short = ap length none in let whole = length-take-le m bs (omega arith) in omega arith)
-        (λ (dot, rest). absurd (let off : is_single_mark b ≡ false = rw dot refl in cc))
-        (front_is_mark b (take m bs) form)
+      | zero ↦ λ within form. omega arith
+      | suc m ↦ λ within form. ⊎_elim
+          (λ (none, other). let short = ap length none in let whole = length-take-le m bs (omega arith) in omega arith)
+          (λ (dot, rest). absurd (let off : is_single_mark b ≡ false = rw dot refl in cc))
+          (front_is_mark b (take m bs) form)
     ])
 
 pub longest_dots : (bs : List ℕ) → get_or bs 0 0 ≡ 46 → 1 < length bs → get_or bs 1 0 ≡ 46 → IsLongest bs kind.Mark 2
@@ -78,11 +78,11 @@ longest_dots (b ∷ []) dot long second = absurd (omega arith)
 longest_dots (b ∷ c ∷ bs) dot long second =
     longest_of_kind (b ∷ c ∷ bs) kind.Mark 2 (omega arith) (marks.Dots, cc)
     (elim [
-      zero ↦ λ within form. omega arith
-    | suc m ↦ λ within form. ⊎_elim
-        (λ (none, other). absurd (other dot))
-        (λ (dot, rest). let short = ap length rest in let whole = length-take-le m (c ∷ bs) (omega arith) in omega arith)
-        (front_is_mark b (take m (c ∷ bs)) form)
+      | zero ↦ λ within form. omega arith
+      | suc m ↦ λ within form. ⊎_elim
+          (λ (none, other). absurd (other dot))
+          (λ (dot, rest). let short = ap length rest in let whole = length-take-le m (c ∷ bs) (omega arith) in omega arith)
+          (front_is_mark b (take m (c ∷ bs)) form)
     ])
 
 -- a dot that no other follows
@@ -90,9 +90,9 @@ pub lone_dot : (bs : List ℕ) → get_or bs 0 0 ≡ 46 → (get_or bs 1 0 ≡ 4
 lone_dot [] dot alone = cc
 lone_dot (b ∷ bs) dot alone =
     begins_no_token (b ∷ bs) kind.Mark (rw dot refl) (elim [
-      zero ↦ λ form. nonempty kind.Mark form
-    | suc n ↦ λ form. ⊎_elim
-        (λ (none, other). other dot)
-        (λ (dot, rest). alone (second_of n bs rest))
-        (front_is_mark b (take n bs) form)
+      | zero ↦ λ form. nonempty kind.Mark form
+      | suc n ↦ λ form. ⊎_elim
+          (λ (none, other). other dot)
+          (λ (dot, rest). alone (second_of n bs rest))
+          (front_is_mark b (take n bs) form)
     ])

@@ -18,11 +18,11 @@ use Rattle.mn_lexer.specs.declared.LexFault.TheVariants.{Lex, NumberRange}
 -- at one place there is one longest token
 same_longest : (bs : List ℕ) (k l : TokenKind) (n m : ℕ) → IsLongest bs k n → IsLongest bs l m → (k ≡ l) × (n ≡ m)
 same_longest bs k l n m a b = (
-    let first = kind_of_front k bs n a.form in let again = kind_of_front l bs m b.form in cc,
-    ⊎_elim
-    (λ same. same)
-    (λ apart. absurd (⊎_elim (λ below. a.longest m l below b.in_range b.form) (λ above. b.longest n k above a.in_range a.form) apart))
-    (cases_order n m),
+  let first = kind_of_front k bs n a.form in let again = kind_of_front l bs m b.form in cc,
+  ⊎_elim
+      (λ same. same)
+      (λ apart. absurd (⊎_elim (λ below. a.longest m l below b.in_range b.form) (λ above. b.longest n k above a.in_range a.form) apart))
+      (cases_order n m),
 )
 
 -- a token stands within the text
@@ -31,9 +31,9 @@ token_within text at k n a =
     ⊎_elim
     (λ within. within)
     (λ past.
-        let first = kind_of_front k (drop at text) n a.form in
-        let none : kind_of_first (get_or (drop at text) 0 0) ≡ None = rw (drop_all at text past) refl in
-        absurd cc)
+    let first = kind_of_front k (drop at text) n a.form in
+    let none : kind_of_first (get_or (drop at text) 0 0) ≡ None = rw (drop_all at text past) refl in
+    absurd cc)
     (cases_lt at (length text))
 
 next_here : (text : List ℕ) (at : ℕ) (t : Token) → IsNext text at t → IsLongest (drop (next_place text at) text) t.kind t.len
@@ -74,10 +74,10 @@ one_reading_from text at (t ∷ ts) (u ∷ us) p q a b =
     let same = same_next text at t u a.0 b.0 in
     let rest : MatchBool (is_end text t) ((us ≡ []) × (q ≡ None)) (Cuts text (t.at + t.len) us q) = subst (λ x. MatchBool (is_end text x) ((us ≡ []) × (q ≡ None)) (Cuts text (x.at + x.len) us q)) (sym same) b.1 in
     let more : (ts ≡ us) × (p ≡ q) =
-        ⊎_elim
-        (λ last. let one = MatchBool-at_true _ _ last a.1 in let other = MatchBool-at_true _ _ last rest in (one.0 ∙ sym other.0, one.1 ∙ sym other.1))
-        (λ goes_on. one_reading_from text (t.at + t.len) ts us p q (MatchBool-at_false _ _ goes_on a.1) (MatchBool-at_false _ _ goes_on rest))
-        (cases_Bool (is_end text t)) in
+    ⊎_elim
+    (λ last. let one = MatchBool-at_true _ _ last a.1 in let other = MatchBool-at_true _ _ last rest in (one.0 ∙ sym other.0, one.1 ∙ sym other.1))
+    (λ goes_on. one_reading_from text (t.at + t.len) ts us p q (MatchBool-at_false _ _ goes_on a.1) (MatchBool-at_false _ _ goes_on rest))
+    (cases_Bool (is_end text t)) in
     (λ i. same i ∷ more.0 i, more.1)
 
 pub one_reading_of : OneReading

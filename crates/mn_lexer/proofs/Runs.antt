@@ -11,8 +11,8 @@ module _ (p : ℕ → Bool) where
   list_all-take-run (x ∷ xs) =
       ⊎_elim
       (λ yes.
-          let more : prefix_len p (x ∷ xs) ≡ suc (prefix_len p xs) = rw yes (one-add _) in
-          rw more (and_from (p x) _ yes (list_all-take-run xs)))
+      let more : prefix_len p (x ∷ xs) ≡ suc (prefix_len p xs) = rw yes (one-add _) in
+      rw more (and_from (p x) _ yes (list_all-take-run xs)))
       (λ no. rw no refl)
       (cases_Bool (p x))
 

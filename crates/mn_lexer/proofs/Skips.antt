@@ -15,9 +15,9 @@ gap_in_comment_is (b ∷ bs) =
     ⊎_elim
     (λ feed. rw (eqb-true b 10 feed) (omega arith))
     (λ other.
-        let count = position_or_len is_line_feed bs in
-        let rest : drop (1 + count) (b ∷ bs) ≡ drop count bs = ap (λ n. drop n (b ∷ bs)) (one-add count) in
-        rw other (omega (arith, ap gap rest, gap_in_comment_is bs)))
+    let count = position_or_len is_line_feed bs in
+    let rest : drop (1 + count) (b ∷ bs) ≡ drop count bs = ap (λ n. drop n (b ∷ bs)) (one-add count) in
+    rw other (omega (arith, ap gap rest, gap_in_comment_is bs)))
     (cases_Bool (is_line_feed b))
 
 module _ (s : List ℕ) (n : ℕ) (within : n < length s) where

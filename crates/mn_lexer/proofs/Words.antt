@@ -25,11 +25,11 @@ longest_word (b ∷ bs) start =
     (prefix_len-le-length is_word_byte (b ∷ bs))
     (rw count (start, list_all-take-run is_word_byte bs))
     (elim [
-      zero ↦ λ within form. omega arith
-    | suc m ↦ λ within form.
-        let bound = length-take-le_run is_word_byte bs m form.1 in
-        let all = length-take-le m bs (omega arith) in
-        omega arith
+      | zero ↦ λ within form. omega arith
+      | suc m ↦ λ within form.
+          let bound = length-take-le_run is_word_byte bs m form.1 in
+          let all = length-take-le m bs (omega arith) in
+          omega arith
     ])
 
 signed_number : (bs : List ℕ) → 0 < prefix_len is_ascii_digit bs → IsLongest (45 ∷ bs) kind.Number (1 + prefix_len is_ascii_digit bs)
@@ -40,11 +40,11 @@ signed_number bs some =
     (omega arith)
     (rw count (rw (length-take-le (prefix_len is_ascii_digit bs) bs fits) some, list_all-take-run is_ascii_digit bs))
     (elim [
-      zero ↦ λ within form. omega arith
-    | suc m ↦ λ within form.
-        let bound = length-take-le_run is_ascii_digit bs m form.1 in
-        let all = length-take-le m bs (omega arith) in
-        omega arith
+      | zero ↦ λ within form. omega arith
+      | suc m ↦ λ within form.
+          let bound = length-take-le_run is_ascii_digit bs m form.1 in
+          let all = length-take-le m bs (omega arith) in
+          omega arith
     ])
 
 no_signed_number : (bs : List ℕ) → prefix_len is_ascii_digit bs ≡ 0 → (n : ℕ) → IsNumber (take n (45 ∷ bs)) → ⊥
@@ -66,12 +66,12 @@ plain_number b bs plain digit =
     (prefix_len-le-length is_ascii_digit (b ∷ bs))
     (rw count (rw (plain_sign b (take (prefix_len is_ascii_digit bs) bs) plain) (omega arith, rw count at all)))
     (elim [
-      zero ↦ λ within form. omega arith
-    | suc m ↦ λ within form.
-        let parts = and_parts (is_ascii_digit b) _ (rw (plain_sign b (take m bs) plain) at form.1) in
-        let bound = length-take-le_run is_ascii_digit bs m parts.1 in
-        let whole = length-take-le m bs (omega arith) in
-        omega arith
+      | zero ↦ λ within form. omega arith
+      | suc m ↦ λ within form.
+          let parts = and_parts (is_ascii_digit b) _ (rw (plain_sign b (take m bs) plain) at form.1) in
+          let bound = length-take-le_run is_ascii_digit bs m parts.1 in
+          let whole = length-take-le m bs (omega arith) in
+          omega arith
     ])
 
 -- the longest number behind a `-`

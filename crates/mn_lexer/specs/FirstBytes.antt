@@ -1,5 +1,5 @@
 -- What the first byte of a token tells.
-use Rattle.std.specs.Prelude.{◌≡◌, ◌≢◌, ℕ, Bool, IsTrue, IsFalse, ◌==◌, ◌||◌, Option, Some, None, if◌then◌else◌}
+use Rattle.std.specs.Prelude.{ℕ, Bool, not, is_none, ◌==◌, ◌||◌, ◌&&◌, Option, Some, None, if◌then◌else◌}
 use Rattle.std.specs.Char.{is_ascii_digit}
 use Rattle.std.specs.Str.{byte}
 use Rattle.mn_lexer.specs.Bytes.{is_blank, begins_comment, is_word_start}
@@ -24,13 +24,13 @@ kind_of_first b =
     else None)))
 
 -- the byte is of this class
-abbrev pub IsOfClass : Class → ℕ → Type 0
-IsOfClass class.Blank b = IsTrue (is_blank b)
-IsOfClass class.CommentStart b = IsTrue (begins_comment b)
-IsOfClass class.WordStart b = IsTrue (is_word_start b)
-IsOfClass class.Digit b = IsTrue (is_ascii_digit b)
-IsOfClass class.Minus b = b ≡ byte "-"
-IsOfClass class.Star b = b ≡ byte "*"
-IsOfClass class.SingleMark b = IsTrue (is_single_mark b)
-IsOfClass class.Dot b = b ≡ byte "."
-IsOfClass class.Other b = (kind_of_first b ≡ None) × IsFalse (is_blank b) × IsFalse (begins_comment b)
+abbrev pub is_of_class : Class → ℕ → Bool
+is_of_class class.Blank b = is_blank b
+is_of_class class.Hash b = begins_comment b
+is_of_class class.Letter b = is_word_start b
+is_of_class class.Digit b = is_ascii_digit b
+is_of_class class.Minus b = b == byte "-"
+is_of_class class.Star b = b == byte "*"
+is_of_class class.Mark b = is_single_mark b
+is_of_class class.Dot b = b == byte "."
+is_of_class class.Other b = is_none (kind_of_first b) && not (is_blank b || begins_comment b)

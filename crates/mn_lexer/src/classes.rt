@@ -1,37 +1,50 @@
 // The classes of bytes, by what they may begin.
-ghost use Rattle.std.specs.Prelude.{◌≡◌};
+ghost use Rattle.std.specs.Prelude.{◌≡◌, IsTrue};
 ghost use Rattle.mn_lexer.specs.Bytes.{is_word_byte};
-ghost use Rattle.mn_lexer.specs.FirstBytes.{IsOfClass};
+ghost use Rattle.mn_lexer.specs.FirstBytes.{is_of_class};
 
 #[derive(Clone, Copy)]
 pub enum Class {
     Blank,
-    CommentStart,
-    WordStart,
+    Hash,
+    Letter,
     Digit,
     Minus,
     Star,
-    SingleMark,
+    Mark,
     Dot,
     Other,
 }
 
+use Class::{Blank, Digit, Dot, Hash, Letter, Mark, Minus, Other, Star};
+
+static CLASSES: [Class; 256] = [
+    Other, Other, Other, Other, Other, Other, Other, Other, Other, Blank, Blank, Other, Other,
+    Blank, Other, Other, Other, Other, Other, Other, Other, Other, Other, Other, Other, Other,
+    Other, Other, Other, Other, Other, Other, Blank, Mark, Other, Hash, Other, Other, Other, Other,
+    Mark, Mark, Star, Other, Mark, Minus, Dot, Other, Digit, Digit, Digit, Digit, Digit, Digit,
+    Digit, Digit, Digit, Digit, Other, Other, Mark, Mark, Mark, Other, Other, Letter, Letter,
+    Letter, Letter, Letter, Letter, Letter, Letter, Letter, Letter, Letter, Letter, Letter, Letter,
+    Letter, Letter, Letter, Letter, Letter, Letter, Letter, Letter, Letter, Letter, Letter, Letter,
+    Mark, Other, Mark, Other, Letter, Other, Letter, Letter, Letter, Letter, Letter, Letter,
+    Letter, Letter, Letter, Letter, Letter, Letter, Letter, Letter, Letter, Letter, Letter, Letter,
+    Letter, Letter, Letter, Letter, Letter, Letter, Letter, Letter, Mark, Other, Mark, Other,
+    Other, Other, Other, Other, Other, Other, Other, Other, Other, Other, Other, Other, Other,
+    Other, Other, Other, Other, Other, Other, Other, Other, Other, Other, Other, Other, Other,
+    Other, Other, Other, Other, Other, Other, Other, Other, Other, Other, Other, Other, Other,
+    Other, Other, Other, Other, Other, Other, Other, Other, Other, Other, Other, Other, Other,
+    Other, Other, Other, Other, Other, Other, Other, Other, Other, Other, Other, Other, Other,
+    Other, Other, Other, Other, Other, Other, Other, Other, Other, Other, Other, Other, Other,
+    Other, Other, Other, Other, Other, Other, Other, Other, Other, Other, Other, Other, Other,
+    Other, Other, Other, Other, Other, Other, Other, Other, Other, Other, Other, Other, Other,
+    Other, Other, Other, Other, Other, Other, Other, Other, Other, Other, Other, Other, Other,
+    Other, Other, Other, Other, Other, Other, Other, Other, Other, Other, Other, Other,
+];
+
 pub fn class_of(byte: u8) -> Class
-    ensures { IsOfClass result byte }
+    ensures { IsTrue (is_of_class result byte) }
 {
-    match byte {
-        b'A'..=b'Z' | b'_' | b'a'..=b'z' => Class::WordStart,
-        b'0'..=b'9' => Class::Digit,
-        b'[' | b']' | b'{' | b'}' | b'(' | b')' | b'<' | b'>' | b',' | b'=' | b'!' => {
-            Class::SingleMark
-        }
-        b'\t' | b'\n' | b'\r' | b' ' => Class::Blank,
-        b'.' => Class::Dot,
-        b'-' => Class::Minus,
-        b'*' => Class::Star,
-        b'#' => Class::CommentStart,
-        _ => Class::Other,
-    }
+    CLASSES[byte as usize]
 }
 
 pub fn is_word_byte(byte: u8) -> bool

@@ -1,10 +1,10 @@
 // What stands at the front of the rest of a text: the longest token, or what is left of a comment.
-ghost use Rattle.std.specs.Prelude.{◌≡◌, ◌+◌, ◌<◌, ◌≤◌, length, Some, slice_index, MatchOption};
+ghost use Rattle.std.specs.Prelude.{◌≡◌, ◌+◌, ◌<◌, ◌≤◌, length, Some, slice_index, IsTrue, MatchOption};
 ghost use Rattle.std.specs.Char.{is_ascii_digit, is_ascii_uppercase};
 ghost use Rattle.std.specs.List.{prefix_len, position_or_len};
 ghost use Rattle.std.specs.Str.{byte};
 ghost use Rattle.mn_lexer.specs.Bytes.{is_word_byte, is_line_feed};
-ghost use Rattle.mn_lexer.specs.FirstBytes.{IsOfClass};
+ghost use Rattle.mn_lexer.specs.FirstBytes.{is_of_class};
 ghost use Rattle.mn_lexer.specs.Forms.{IsLongest, BeginsNoToken};
 
 use super::TokenKind;
@@ -36,7 +36,6 @@ pub fn comment_bytes(rest: &[u8]) -> usize
 {
     rest.iter().take_while(|byte| **byte != b'\n').count()
 }
-
 
 // The length of the number that begins with the `-` at the front.
 fn signed_len(rest: &[u8]) -> Option<usize>
@@ -76,16 +75,16 @@ fn dots_len(rest: &[u8]) -> Option<usize>
 
 // The longest token at the front, whose first byte is of this class: its kind and its length.
 pub fn front(rest: &[u8], class: Class) -> Option<(TokenKind, usize)>
-    requires { IsOfClass class (slice_index rest.now 0) }
+    requires { IsTrue (is_of_class class (slice_index rest.now 0)) }
     ensures { MatchOption result (BeginsNoToken rest.now) (λ found. IsLongest rest.now found.0 found.1) }
 {
     match class {
-        Class::WordStart => Some((TokenKind::Word, word_bytes(rest))),
+        Class::Letter => Some((TokenKind::Word, word_bytes(rest))),
         Class::Digit => Some((TokenKind::Number, digits(rest))),
         Class::Minus => Some((TokenKind::Number, signed_len(rest)?)),
         Class::Star => Some((TokenKind::Head, head_len(rest)?)),
-        Class::SingleMark => Some((TokenKind::Mark, 1)),
+        Class::Mark => Some((TokenKind::Mark, 1)),
         Class::Dot => Some((TokenKind::Mark, dots_len(rest)?)),
-        Class::Blank | Class::CommentStart | Class::Other => None,
+        Class::Blank | Class::Hash | Class::Other => None,
     }
 }

@@ -8,16 +8,15 @@
 //! The crate stands on std alone.
 #![tactic(auto)]
 
-ghost use Rattle.std.specs.Prelude.{◌≡◌, ◌+◌, ◌≤◌, ◌<◌, length, slice_index, IfOk, All};
-ghost use Rattle.mn_lexer.specs.FirstBytes.{IsOfClass};
+ghost use Rattle.std.specs.Prelude.{◌≡◌, ◌+◌, ◌≤◌, ◌<◌, length, slice_index, IsTrue, IfOk, All};
+ghost use Rattle.mn_lexer.specs.FirstBytes.{is_of_class};
 ghost use Rattle.mn_lexer.specs.Reading.{IsLexed, IsTokenOf, OneReading, is_end, next_place};
 ghost use Rattle.mn_lexer.specs.Next.{IsNextFrom};
-
-use std::alloc::Global;
 
 use classes::{Class, class_of};
 use fronts::{comment_bytes, front};
 use numbers::is_within_limit;
+use std::alloc::Global;
 
 mod classes;
 mod fronts;
@@ -79,7 +78,7 @@ enum Next {
 fn token_at(text: &[u8], at: usize, class: Class) -> Next
     requires size { length text.now ≤ TEXT_LIMIT }
     requires in_text { at < length text.now }
-    requires of_class { IsOfClass class (slice_index text.now at) }
+    requires of_class { IsTrue (is_of_class class (slice_index text.now at)) }
     requires in_no_gap { next_place text.now at ≡ at }
     ensures { IsNextFrom text.now at result }
 {
@@ -106,7 +105,7 @@ fn next_from(text: &[u8], from: usize) -> Next
     while at < text.len() {
         match class_of(text[at]) {
             Class::Blank => at += 1,
-            Class::CommentStart => at = at + 1 + comment_bytes(&text[at + 1..]),
+            Class::Hash => at = at + 1 + comment_bytes(&text[at + 1..]),
             class => return token_at(text, at, class),
         }
     }
@@ -147,8 +146,7 @@ pub fn tokens(alloc: Global, text: &[u8]) -> Result<Lexed, NoMemory>
 /// No text has two lists of tokens.
 pub fn one_reading()
     ensures { OneReading }
-{
-}
+{}
 
 #[cfg(test)]
 mod tests;

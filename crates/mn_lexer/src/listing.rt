@@ -24,7 +24,9 @@ impl Tokens {
     pub fn new(alloc: Global) -> Self
         ensures { result ≡ [] }
     {
-        Tokens { items: Vec::new(alloc) }
+        Tokens {
+            items: Vec::new(alloc),
+        }
     }
 
     pub fn push(&mut self, token: Token) -> Result<(), NoMemory>

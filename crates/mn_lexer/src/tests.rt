@@ -3,8 +3,11 @@ use std::alloc::AllocError;
 use std::process::Abort;
 
 const W: TokenKind = TokenKind::Word;
+
 const N: TokenKind = TokenKind::Number;
+
 const H: TokenKind = TokenKind::Head;
+
 const M: TokenKind = TokenKind::Mark;
 
 // A text, its tokens in order, and what ends them before the text's end.
@@ -37,12 +40,43 @@ fn check(rt: &impl Abort, row: &Row, lexed: &Lexed) {
 #[test]
 fn rows(rt: HostRuntime) -> Result<(), AllocError> {
     let table = [
-        Row { text: b"", tokens: &[], stop: None },
-        Row { text: b"1..2", tokens: &[(N, b"1"), (M, b".."), (N, b"2")], stop: None },
-        Row { text: b"-5 5x a-b _ __", tokens: &[(N, b"-5"), (N, b"5"), (W, b"x"), (W, b"a-b"), (W, b"_"), (W, b"__")], stop: None },
-        Row { text: b"- 5", tokens: &[], stop: Some(LexFault::Lex(0)) },
-        Row { text: b"**EOF**x\xff", tokens: &[(H, b"**EOF**")], stop: None },
-        Row { text: b" **eof**", tokens: &[], stop: Some(LexFault::Lex(1)) },
+        Row {
+            text: b"",
+            tokens: &[],
+            stop: None,
+        },
+        Row {
+            text: b"1..2",
+            tokens: &[(N, b"1"), (M, b".."), (N, b"2")],
+            stop: None,
+        },
+        Row {
+            text: b"-5 5x a-b _ __",
+            tokens: &[
+                (N, b"-5"),
+                (N, b"5"),
+                (W, b"x"),
+                (W, b"a-b"),
+                (W, b"_"),
+                (W, b"__"),
+            ],
+            stop: None,
+        },
+        Row {
+            text: b"- 5",
+            tokens: &[],
+            stop: Some(LexFault::Lex(0)),
+        },
+        Row {
+            text: b"**EOF**x\xff",
+            tokens: &[(H, b"**EOF**")],
+            stop: None,
+        },
+        Row {
+            text: b" **eof**",
+            tokens: &[],
+            stop: Some(LexFault::Lex(1)),
+        },
     ];
     for row in table.iter() {
         assert!(rt; row.text.len() <= 1000);

@@ -11,6 +11,6 @@ pub returns-else-rest-gt1 : goal.returns-else-rest-gt1
 returns-else-rest-gt1 c =
     lone_dot c.args.rest.now c.requires
     (elim c.else-rest-gt1.branch [
-      else-rest-gt1-via-then-rest-gt1+else-rest-eq46 w ↦ w.if-rest-eq46.false
-    | else-rest-gt1-via-else-rest-gt1 w ↦ λ dot. let past = get_or_past c.args.rest.now 1 0 w.if-rest-gt1.false in omega arith
+      | else-rest-gt1-via-then-rest-gt1+else-rest-eq46 w ↦ w.if-rest-eq46.false
+      | else-rest-gt1-via-else-rest-gt1 w ↦ λ dot. let past = get_or_past c.args.rest.now 1 0 w.if-rest-gt1.false in omega arith
     ])

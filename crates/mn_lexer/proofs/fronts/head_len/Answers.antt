@@ -30,26 +30,26 @@ pub returns-then-rest-lt2 : goal.returns-then-rest-lt2
 returns-then-rest-lt2 c =
     begins_no_token c.args.rest.now kind.Head (ap kind_of_first c.requires)
     (λ n form.
-        let head = begins_head c.args.rest.now n form in
-        elim c.then-rest-lt2.branch [
-          then-rest-lt2-via-then-rest-lt2 w ↦ let past = get_or_past c.args.rest.now 1 0 (omega arith) in omega arith
-        | then-rest-lt2-via-else-rest-lt2+then-rest-ne42 w ↦ w.if-rest-ne42.true head.second
-        ])
+    let head = begins_head c.args.rest.now n form in
+    elim c.then-rest-lt2.branch [
+      | then-rest-lt2-via-then-rest-lt2 w ↦ let past = get_or_past c.args.rest.now 1 0 (omega arith) in omega arith
+      | then-rest-lt2-via-else-rest-lt2+then-rest-ne42 w ↦ w.if-rest-ne42.true head.second
+    ])
 
 pub returns-then-end-eq2 : goal.returns-then-end-eq2
 returns-then-end-eq2 c =
     let count = count_is (goal.at.returns-then-end-eq2 c).After-capitals-end in
     begins_no_token c.args.rest.now kind.Head (ap kind_of_first c.requires)
     (λ n form.
-        let head = begins_head c.args.rest.now n form in
-        elim c.then-end-eq2.branch [
-          then-end-eq2-via-then-end-eq2 w ↦ omega arith
-        | then-end-eq2-via-else-end-eq2+then-rest-end-lt2 w ↦ omega arith
-        | then-end-eq2-via-else-end-eq2+else-rest-end-lt2+then-rest-end-ne42 w ↦ w.if-rest-end-ne42.true (rw count head.third)
-        | then-end-eq2-via-else-end-eq2+else-rest-end-lt2+else-rest-end-ne42+then-rest-end-ne42-2 w ↦
-            let at : 2 + c.capitals-end.result + 1 ≡ 3 + prefix_len is_ascii_uppercase (drop 2 c.args.rest.now) = omega arith in
-            w.if-rest-end-ne42-2.true (rw at head.fourth)
-        ])
+    let head = begins_head c.args.rest.now n form in
+    elim c.then-end-eq2.branch [
+      | then-end-eq2-via-then-end-eq2 w ↦ omega arith
+      | then-end-eq2-via-else-end-eq2+then-rest-end-lt2 w ↦ omega arith
+      | then-end-eq2-via-else-end-eq2+else-rest-end-lt2+then-rest-end-ne42 w ↦ w.if-rest-end-ne42.true (rw count head.third)
+      | then-end-eq2-via-else-end-eq2+else-rest-end-lt2+else-rest-end-ne42+then-rest-end-ne42-2 w ↦
+          let at : 2 + c.capitals-end.result + 1 ≡ 3 + prefix_len is_ascii_uppercase (drop 2 c.args.rest.now) = omega arith in
+          w.if-rest-end-ne42-2.true (rw at head.fourth)
+    ])
 
 pub returns : goal.returns
 returns c =
