@@ -1,14 +1,11 @@
 -- A token's first byte tells its kind.
-use Rattle.std.proofs.Common.{◌≡◌, ℕ, suc, zero, ◌+◌, ◌<◌, ◌≤◌, Bool, true, false, List, [], ◌∷◌, ◌++◌, Option, Some, None, is_none, eqb, length, take, drop, get_or, refl, sym, ap, ◌∙◌, subst, ⊎_elim, arith, add-one, rules}
-use Rattle.std.specs.Prelude.{codes}
-use Rattle.std.specs.List.{list_all}
+use Rattle.std.proofs.Common.{◌≡◌, ℕ, suc, zero, ◌≤◌, true, List, [], ◌∷◌, Option, Some, None, is_none, eqb, length, take, get_or, refl, sym, subst, ⊎_elim, arith}
 use Rattle.std.specs.Char.{is_ascii_digit}
-use Rattle.std.proofs.lemmas.Bool.{cases_Bool, and_parts, and_from, or_parts, not-true, eqb-true}
+use Rattle.std.proofs.lemmas.Bool.{cases_Bool, and_parts, eqb-true}
 use Rattle.std.proofs.lemmas.Bool.Decides.{nat_tests}
 use Rattle.mn_lexer.specs.FirstBytes.{kind_of_first, is_of_class}
-use Rattle.mn_lexer.specs.declared.classes.Class.{Class}
 use Rattle.mn_lexer.specs.declared.classes.Class.TheVariants as class
-use Rattle.mn_lexer.specs.Bytes.{is_word_start, is_blank, begins_comment}
+use Rattle.mn_lexer.specs.Bytes.{is_blank, begins_comment}
 use Rattle.mn_lexer.specs.Forms.{HasForm, IsLongest, BeginsNoToken}
 use Rattle.mn_lexer.specs.Marks.{mark_text}
 use Rattle.mn_lexer.specs.declared.marks.Mark.{Mark}
@@ -86,18 +83,6 @@ begins_nothing bs first n k form = let again = kind_of_front k bs n form in cc
 none_from : (o : Option TokenKind) → is_none o ≡ true → o ≡ None
 none_from None e = refl
 none_from (Some k) e = cc
-
--- what begins no gap: a byte of any other class
-pub in_no_gap : (k : Class) (b : ℕ) → is_of_class k b ≡ true → (k ≡ class.Blank → ⊥) → (k ≡ class.Hash → ⊥) → (is_blank b ≡ false) × (begins_comment b ≡ false)
-in_no_gap class.Blank b of no_blank no_comment = absurd (no_blank refl)
-in_no_gap class.Hash b of no_blank no_comment = absurd (no_comment refl)
-in_no_gap class.Letter b of no_blank no_comment = (grind (arith, nat_tests), grind (arith, nat_tests))
-in_no_gap class.Digit b of no_blank no_comment = (grind (arith, nat_tests), grind (arith, nat_tests))
-in_no_gap class.Minus b of no_blank no_comment = rw (eqb-true b 45 of) (refl, refl)
-in_no_gap class.Star b of no_blank no_comment = rw (eqb-true b 42 of) (refl, refl)
-in_no_gap class.Mark b of no_blank no_comment = (grind (arith, nat_tests), grind (arith, nat_tests))
-in_no_gap class.Dot b of no_blank no_comment = rw (eqb-true b 46 of) (refl, refl)
-in_no_gap class.Other b of no_blank no_comment = or_parts _ _ (not-true _ (and_parts _ _ of).1)
 
 -- bytes of no other class begin no token
 pub other_first : (b : ℕ) → is_of_class class.Other b ≡ true → kind_of_first b ≡ None

@@ -1,17 +1,12 @@
 -- The longest head at the front.
-use Rattle.std.proofs.Common.{◌≡◌, ℕ, suc, zero, ◌+◌, ◌-◌, ◌<◌, ◌≤◌, Bool, true, false, List, [], ◌∷◌, ◌++◌, Option, Some, None, eqb, length, take, drop, get_or, refl, sym, ap, ◌∙◌, subst, ⊎_elim, arith, rules, append_assoc, length-append}
+use Rattle.std.proofs.Common.{◌≡◌, ℕ, suc, ◌+◌, ◌<◌, ◌≤◌, true, List, [], ◌∷◌, ◌++◌, length, take, drop, get_or, refl, sym, ap, ◌∙◌, subst, arith, append_assoc, length-append}
 use Rattle.std.specs.Prelude.{codes}
 use Rattle.std.specs.List.{list_all, prefix_len}
 use Rattle.std.specs.Char.{is_ascii_uppercase}
 use Rattle.std.proofs.lemmas.List.{length-take-le, take-append-drop, take_more}
-use Rattle.std.proofs.lemmas.List.Sums.{prefix_len-le-length}
-use Rattle.std.proofs.lemmas.Bool.{cases_Bool, eqb-true}
-use Rattle.std.proofs.lemmas.Bool.Decides.{nat_tests}
-use Rattle.mn_lexer.specs.FirstBytes.{kind_of_first}
-use Rattle.mn_lexer.specs.Forms.{HasForm, IsHead, IsLongest, BeginsNoToken}
+use Rattle.mn_lexer.specs.Forms.{IsHead, IsLongest}
 use Rattle.mn_lexer.proofs.Runs.{list_all-take-run, prefix_len-append}
-use Rattle.mn_lexer.proofs.Firsts.{longest_of_kind, begins_no_token}
-use Rattle.mn_lexer.specs.declared.TokenKind.{TokenKind}
+use Rattle.mn_lexer.proofs.Firsts.{longest_of_kind}
 use Rattle.mn_lexer.specs.declared.TokenKind.TheVariants as kind
 
 -- What stands in bs where a front of it, n bytes at most, is a head: the name ends where the capital letters do.

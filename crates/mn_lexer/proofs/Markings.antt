@@ -1,16 +1,13 @@
 -- The longest mark at the front.
-use Rattle.std.proofs.Common.{◌≡◌, ℕ, suc, zero, ◌+◌, ◌<◌, ◌≤◌, Bool, true, false, List, [], ◌∷◌, ◌++◌, Option, Some, None, eqb, length, take, drop, get_or, refl, sym, ap, ◌∙◌, subst, ⊎_elim, ◌⊎◌, inl, inr, arith, rules, ◌||◌}
-use Rattle.std.specs.Prelude.{codes}
-use Rattle.std.proofs.lemmas.Bool.{cases_Bool, eqb-true, or_cases}
+use Rattle.std.proofs.Common.{◌≡◌, ℕ, suc, zero, ◌<◌, true, false, List, [], ◌∷◌, eqb, length, take, get_or, refl, sym, ap, ◌∙◌, ⊎_elim, ◌⊎◌, inl, inr, arith}
+use Rattle.std.proofs.lemmas.Bool.{eqb-true, or_cases}
 use Rattle.std.proofs.lemmas.List.{length-take-le}
-use Rattle.std.proofs.lemmas.Bool.Decides.{nat_tests}
-use Rattle.mn_lexer.specs.FirstBytes.{kind_of_first, is_single_mark}
-use Rattle.mn_lexer.specs.Forms.{HasForm, IsMark, IsLongest, BeginsNoToken}
+use Rattle.mn_lexer.specs.FirstBytes.{is_single_mark}
+use Rattle.mn_lexer.specs.Forms.{IsMark, IsLongest, BeginsNoToken}
 use Rattle.mn_lexer.specs.Marks.{mark_text}
 use Rattle.mn_lexer.proofs.Firsts.{longest_of_kind, begins_no_token, nonempty}
 use Rattle.mn_lexer.specs.declared.marks.Mark.{Mark}
 use Rattle.mn_lexer.specs.declared.marks.Mark.TheVariants as marks
-use Rattle.mn_lexer.specs.declared.TokenKind.{TokenKind}
 use Rattle.mn_lexer.specs.declared.TokenKind.TheVariants as kind
 
 written : (m : Mark) (b n : ℕ) → mark_text m ≡ n ∷ [] → eqb b n ≡ true → IsMark (b ∷ [])

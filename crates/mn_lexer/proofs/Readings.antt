@@ -1,14 +1,14 @@
 -- The tokens of a text: no text has two lists of them, and a list grows token by token.
-use Rattle.std.proofs.Common.{◌≡◌, ℕ, suc, zero, ◌+◌, ◌-◌, ◌<◌, ◌≤◌, Bool, true, false, List, [], ◌∷◌, ◌++◌, Option, Some, None, length, take, drop, get_or, refl, sym, ap, ◌∙◌, subst, ⊎_elim, arith, length-drop, append_assoc}
+use Rattle.std.proofs.Common.{◌≡◌, ℕ, ◌+◌, ◌<◌, ◌≤◌, Bool, false, List, [], ◌∷◌, ◌++◌, Option, Some, None, length, take, drop, get_or, refl, sym, ap, ◌∙◌, subst, ⊎_elim, arith, length-drop, append_assoc}
 use Rattle.std.specs.Prelude.{MatchBool, All}
 use Rattle.std.proofs.lemmas.Bool.{cases_Bool, cases_lt, cases_order, MatchBool-at_true, MatchBool-at_false}
 use Rattle.std.proofs.lemmas.List.{drop_all, append-nil}
 use Rattle.std.proofs.lemmas.List.Elements.{All-push}
 use Rattle.mn_lexer.specs.FirstBytes.{kind_of_first}
-use Rattle.mn_lexer.specs.Forms.{HasForm, IsLongest, BeginsNoToken}
+use Rattle.mn_lexer.specs.Forms.{IsLongest}
 use Rattle.mn_lexer.specs.Numbers.{number_value, IsWithinLimit}
-use Rattle.mn_lexer.specs.Reading.{bytes_of, next_place, IsAllowed, IsNext, is_end, Ends, Cuts, IsLexed, IsTokenOf, OneReading}
-use Rattle.mn_lexer.proofs.Firsts.{kind_of_front, nonempty}
+use Rattle.mn_lexer.specs.Reading.{next_place, IsAllowed, IsNext, is_end, Ends, Cuts, IsLexed, IsTokenOf, OneReading}
+use Rattle.mn_lexer.proofs.Firsts.{kind_of_front}
 use Rattle.mn_lexer.specs.declared.Token.{Token}
 use Rattle.mn_lexer.specs.declared.TokenKind.{TokenKind}
 use Rattle.mn_lexer.specs.declared.TokenKind.TheVariants as kind
@@ -96,18 +96,8 @@ pub record CutsUpTo (text : List ℕ) (ts : List Token) (at : ℕ) : Type 0 wher
   pub each : All (IsTokenOf text) ts
   pub in_text : at ≤ length text
 
-case_true : {b : Bool} (P Q : Type 0) → b ≡ true → P → MatchBool b P Q
-case_true P Q e p = subst (λ x. MatchBool x P Q) (sym e) p
-
 case_false : {b : Bool} (P Q : Type 0) → b ≡ false → Q → MatchBool b P Q
 case_false P Q e q = subst (λ x. MatchBool x P Q) (sym e) q
-
-some_bytes : (bs : List ℕ) (k : TokenKind) (n : ℕ) → HasForm k (take n bs) → 0 < n
-some_bytes bs k zero form = absurd (nonempty k form)
-some_bytes bs k (suc n) form = omega arith
-
-pub none_yet : (text : List ℕ) → CutsUpTo text [] 0
-none_yet text = record { completes = λ more stop cut. cut; each = λ k d within. absurd (omega arith); in_text = omega arith }
 
 module _ (text : List ℕ) (ts : List Token) (at : ℕ) (before : CutsUpTo text ts at) where
   -- one more token
@@ -120,14 +110,6 @@ module _ (text : List ℕ) (ts : List Token) (at : ℕ) (before : CutsUpTo text 
     in_text = (IsTokenOf-next text at t next).in_range;
   }
 
-  -- the token that ends the list
-  pub push_end : (t : Token) → IsNext text at t → is_end text t ≡ true → IsLexed text (ts ++ t ∷ []) None
-  push_end t next last = before.completes (t ∷ []) None (next, case_true _ _ last (refl, refl))
-
   -- what ends it without a token
   pub stop_here : (stop : Option LexFault) → Ends text (next_place text at) stop → IsLexed text ts stop
   stop_here stop ends = subst (λ x. IsLexed text x stop) (append-nil ts) (before.completes [] stop ends)
-
-  -- each token moves on
-  pub moves_on : (t : Token) → IsNext text at t → at < t.at + t.len
-  moves_on t next = let place = next.place in let some = some_bytes (drop t.at text) t.kind t.len next.longest.form in omega arith

@@ -1,11 +1,11 @@
 -- The steps of a loop over a gap.
-use Rattle.std.proofs.Common.{◌≡◌, ℕ, suc, zero, ◌+◌, ◌-◌, ◌<◌, ◌≤◌, Bool, true, false, not, List, [], ◌∷◌, eqb, length, take, drop, get_or, refl, sym, ap, ◌∙◌, subst, ⊎_elim, arith}
+use Rattle.std.proofs.Common.{◌≡◌, ℕ, ◌+◌, ◌-◌, ◌<◌, ◌≤◌, true, not, List, [], ◌∷◌, length, take, drop, get_or, refl, sym, ap, ◌∙◌, subst, ⊎_elim, arith}
 use Rattle.std.specs.List.{position_or_len}
 use Rattle.std.proofs.Math.Numerals.{one-add}
-use Rattle.std.proofs.lemmas.Bool.{cases_Bool, eqb-true, ne_eqb}
+use Rattle.std.proofs.lemmas.Bool.{cases_Bool, eqb-true}
 use Rattle.std.proofs.lemmas.List.{drop_more, drop-drop, take_rest, length-drop}
 use Rattle.std.proofs.lemmas.List.Sums.{prefix_len-le-length}
-use Rattle.mn_lexer.specs.Bytes.{is_blank, is_line_feed, begins_comment}
+use Rattle.mn_lexer.specs.Bytes.{is_line_feed, begins_comment}
 use Rattle.mn_lexer.specs.Gaps.{gap, gap_in_comment}
 
 -- a comment goes on to its line feed, which is a blank
@@ -21,14 +21,8 @@ gap_in_comment_is (b ∷ bs) =
     (cases_Bool (is_line_feed b))
 
 module _ (s : List ℕ) (n : ℕ) (within : n < length s) where
-  pub gap_at_blank : is_blank (get_or s n 0) ≡ true → gap (drop n s) ≡ 1 + gap (drop (n + 1) s)
-  gap_at_blank blank = rw (drop_more s n 0 within) (rw blank refl)
-
   gap_at_comment : get_or s n 0 ≡ 35 → gap (drop n s) ≡ 1 + gap_in_comment (drop (n + 1) s)
   gap_at_comment hash = rw (drop_more s n 0 within) (rw hash refl)
-
-  pub gap_at_other : is_blank (get_or s n 0) ≡ false → begins_comment (get_or s n 0) ≡ false → gap (drop n s) ≡ 0
-  gap_at_other other hash = rw (drop_more s n 0 within) (rw (other, hash) refl)
 
   -- n moves behind the comment, by q bytes behind its `#`
   pub skip_comment : (q : ℕ) → q ≡ position_or_len is_line_feed (take (length s - (n + 1)) (drop (n + 1) s)) → begins_comment (get_or s n 0) ≡ true → (n + 1 + q ≤ length s) × (1 + q + gap (drop (n + 1 + q) s) ≡ gap (drop n s))

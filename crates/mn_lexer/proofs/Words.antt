@@ -1,19 +1,16 @@
 -- The longest word and the longest number at the front.
-use Rattle.std.proofs.Common.{◌≡◌, ℕ, suc, zero, ◌+◌, ◌<◌, ◌≤◌, Bool, true, false, List, [], ◌∷◌, ◌++◌, Option, Some, None, eqb, length, take, drop, get_or, refl, sym, ap, ◌∙◌, subst, ⊎_elim, arith, add-one, rules, length-take}
-use Rattle.std.specs.List.{list_all, prefix_len}
+use Rattle.std.proofs.Common.{◌≡◌, ℕ, suc, zero, ◌+◌, ◌<◌, true, false, List, [], ◌∷◌, take, drop, get_or, refl, subst, arith}
+use Rattle.std.specs.List.{prefix_len}
 use Rattle.std.specs.Char.{is_ascii_digit}
 use Rattle.std.proofs.Math.Numerals.{one-add}
-use Rattle.std.proofs.lemmas.Bool.{cases_Bool, and_parts, and_from, eqb-true, ne_eqb, or_left}
-use Rattle.std.proofs.lemmas.Bool.Decides.{nat_tests}
+use Rattle.std.proofs.lemmas.Bool.{and_parts, ne_eqb, or_left}
 use Rattle.std.proofs.lemmas.List.{length-take-le}
 use Rattle.std.proofs.lemmas.List.Sums.{prefix_len-le-length}
-use Rattle.mn_lexer.specs.FirstBytes.{kind_of_first}
 use Rattle.mn_lexer.specs.Bytes.{is_word_start, is_word_byte}
-use Rattle.mn_lexer.specs.Forms.{HasForm, IsWord, IsNumber, IsLongest, BeginsNoToken}
+use Rattle.mn_lexer.specs.Forms.{IsNumber, IsLongest, BeginsNoToken}
 use Rattle.mn_lexer.specs.Numbers.{without_sign}
 use Rattle.mn_lexer.proofs.Runs.{list_all-take-run, length-take-le_run}
 use Rattle.mn_lexer.proofs.Firsts.{longest_of_kind, begins_no_token}
-use Rattle.mn_lexer.specs.declared.TokenKind.{TokenKind}
 use Rattle.mn_lexer.specs.declared.TokenKind.TheVariants as kind
 
 pub longest_word : (bs : List ℕ) → is_word_start (get_or bs 0 0) ≡ true → IsLongest bs kind.Word (prefix_len is_word_byte bs)

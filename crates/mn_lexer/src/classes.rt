@@ -1,4 +1,4 @@
-// The classes of bytes, by what they may begin.
+// The classes of bytes, by what they begin. `Letter` has `_` too, and `Mark` has the marks of one byte.
 ghost use Rattle.std.specs.Prelude.{◌≡◌, IsTrue};
 ghost use Rattle.mn_lexer.specs.Bytes.{is_word_byte};
 ghost use Rattle.mn_lexer.specs.FirstBytes.{is_of_class};
@@ -41,6 +41,7 @@ static CLASSES: [Class; 256] = [
     Other, Other, Other, Other, Other, Other, Other, Other, Other, Other, Other, Other,
 ];
 
+// One look into the table is faster than a chain of tests.
 pub fn class_of(byte: u8) -> Class
     ensures { IsTrue (is_of_class result byte) }
 {

@@ -96,6 +96,7 @@ fn token_at(text: &[u8], at: usize, class: Class) -> Next
     })
 }
 
+// The next token from a place on, or what ends the list.
 fn next_from(text: &[u8], from: usize) -> Next
     requires size { length text.now ≤ TEXT_LIMIT }
     requires in_text { from ≤ length text.now }
@@ -121,10 +122,14 @@ fn is_end(text: &[u8], token: Token) -> bool
     &text[at..end] == b"**EOF**".as_slice()
 }
 
-/// The tokens of a text, up to the first `**EOF**`, the first fault or the end of the text.
+/// The tokens of a text, up to the first `**EOF**`, the first fault or the end of the text. It takes one
+/// pass, and no memory but that of the list.
 pub fn tokens(alloc: Global, text: &[u8]) -> Result<Lexed, NoMemory>
     requires { length text.now ≤ TEXT_LIMIT }
+    // This is the one reading of the text: which tokens it has, and which fault ends them.
     ensures lexed { IfOk result (λ l. IsLexed text.now l.list l.stop) }
+
+    // So each token's bytes lie in the text, have the form of its kind, and keep the limit.
     ensures each { IfOk result (λ l. All (IsTokenOf text.now) l.list) }
 {
     let mut list = Tokens::new(alloc);
@@ -143,7 +148,7 @@ pub fn tokens(alloc: Global, text: &[u8]) -> Result<Lexed, NoMemory>
     }
 }
 
-/// No text has two lists of tokens.
+/// A law: no text has two lists of tokens.
 pub fn one_reading()
     ensures { OneReading }
 {}

@@ -1,4 +1,4 @@
-use Rattle.std.proofs.Common.{◌≡◌, ℕ, ◌+◌, ◌≤◌, ◌∙◌, length, drop, sym, arith}
+use Rattle.std.proofs.Common.{◌≡◌, ◌+◌, ◌≤◌, length, drop, arith}
 use Rattle.mn_lexer.specs.Gaps.{gap}
 use Rattle.mn_lexer.proofs.Skips.{skip_comment}
 use Rattle.mn_lexer.proofs.next_from.Goals as goal

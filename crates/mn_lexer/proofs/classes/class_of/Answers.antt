@@ -1,4 +1,4 @@
-use Rattle.std.proofs.Common.{ℕ, true, get_or, refl, arith}
+use Rattle.std.proofs.Common.{true, get_or, refl, arith}
 use Rattle.std.proofs.lemmas.Bool.{agree_below_at}
 use Rattle.mn_lexer.specs.FirstBytes.{is_of_class}
 use Rattle.mn_lexer.specs.declared.classes.TheConstants.{CLASSES}

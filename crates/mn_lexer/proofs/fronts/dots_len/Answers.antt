@@ -1,4 +1,4 @@
-use Rattle.std.proofs.Common.{◌≡◌, length, arith}
+use Rattle.std.proofs.Common.{arith}
 use Rattle.std.proofs.lemmas.List.{get_or_past}
 use Rattle.mn_lexer.proofs.Markings.{longest_dots, lone_dot}
 use Rattle.mn_lexer.proofs.fronts.dots_len.Goals as goal
