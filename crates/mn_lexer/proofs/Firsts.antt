@@ -41,7 +41,7 @@ mark_first marks.Dots b bs e = let first : b ≡ 46 = cc in rw first refl
 pub kind_of_first-form : (k : TokenKind) (b : ℕ) (bs : List ℕ) → HasForm k (b ∷ bs) → kind_of_first b ≡ Some k
 kind_of_first-form kind.Word b bs form = rw form.0 refl
 kind_of_first-form kind.Number b bs form = number_first b bs form
-kind_of_first-form kind.Head b bs (name, some, capital, e) = let first : b ≡ 42 = cc in rw first refl
+kind_of_first-form kind.Head b bs (name, some, e) = let first : b ≡ 42 = cc in rw first refl
 kind_of_first-form kind.Mark b bs (m, e) = mark_first m b bs e
 
 mark_nonempty : (m : Mark) → [] ≡ mark_text m → ⊥
@@ -52,7 +52,7 @@ mark_nonempty _ e = cc
 pub nonempty : (k : TokenKind) → HasForm k [] → ⊥
 nonempty kind.Word form = form
 nonempty kind.Number form = omega (arith, form.0)
-nonempty kind.Head (name, some, capital, e) = cc
+nonempty kind.Head (name, some, e) = cc
 nonempty kind.Mark (m, e) = mark_nonempty m e
 
 -- the kind of a token at the front of bs is that of the first byte

@@ -44,7 +44,7 @@ laid_out name more n named capital size =
 
 -- a front that is a head is laid out so
 pub begins_head : (bs : List ℕ) (n : ℕ) → IsHead (take n bs) → BeginsHead bs n
-begins_head bs n (name, named, capital, e) =
+begins_head bs n (name, (named, capital), e) =
     let whole : bs ≡ 42 ∷ 42 ∷ (name ++ 42 ∷ 42 ∷ drop n bs) = sym (take-append-drop n bs) ∙ ap (λ x. x ++ drop n bs) e ∙ ap (λ x. 42 ∷ 42 ∷ x) (append_assoc name (codes "**") (drop n bs)) in
     let size : length (take n bs) ≡ length name + 4 = omega (arith, ap length e, length-append name (codes "**")) in
     subst (λ x. BeginsHead x n) (sym whole) (laid_out name (drop n bs) n named capital (subst (λ x. length (take n x) ≡ length name + 4) whole size))
@@ -67,8 +67,7 @@ longest_head (a ∷ b ∷ bs) first end at some fits second third fourth =
     let size : end + 2 ≡ suc (suc (run + 1 + 1)) = omega arith in
     longest_of_kind (a ∷ b ∷ bs) kind.Head (end + 2) fits (
       take run bs,
-      rw (length-take-le run bs (omega arith)) (omega arith),
-      list_all-take-run is_ascii_uppercase bs,
+      (rw (length-take-le run bs (omega arith)) (omega arith), list_all-take-run is_ascii_uppercase bs),
       subst (λ x. take x (a ∷ b ∷ bs) ≡ 42 ∷ 42 ∷ (take run bs ++ 42 ∷ 42 ∷ [])) (sym size)
           (rw (first, second) (ap (λ x. 42 ∷ 42 ∷ x) (two_stars bs run (omega arith) (subst (λ x. get_or (a ∷ b ∷ bs) x 0 ≡ 42) third_at third) (subst (λ x. get_or (a ∷ b ∷ bs) x 0 ≡ 42) fourth_at fourth)))),
     )

@@ -11,8 +11,8 @@ use Rattle.mn_lexer.specs.declared.classes.Class.TheVariants as class
 -- a mark of one byte
 abbrev pub is_single_mark : ℕ → Bool
 is_single_mark b =
-    b == byte "[" || b == byte "]" || b == byte "{" || b == byte "}" || b == byte "(" || b == byte ")"
-    || b == byte "<" || b == byte ">" || b == byte "," || b == byte "=" || b == byte "!"
+    b == byte "[" || b == byte "]" || b == byte "{" || b == byte "}" || b == byte "("
+    || b == byte ")" || b == byte "<" || b == byte ">" || b == byte "," || b == byte "=" || b == byte "!"
 
 -- the kind of the tokens that begin with this byte, if any do
 abbrev pub kind_of_first : ℕ → Option TokenKind

@@ -1,5 +1,5 @@
 -- The four kinds of token by their form, and the longest token at a place.
-use Rattle.std.specs.Prelude.{◌≡◌, ℕ, ◌<◌, ◌≤◌, List, [], ◌∷◌, ◌++◌, length, take, IsTrue, codes}
+use Rattle.std.specs.Prelude.{◌≡◌, ℕ, Bool, ◌<◌, ◌≤◌, List, [], ◌∷◌, ◌++◌, length, take, IsTrue, codes}
 use Rattle.std.specs.List.{list_all}
 use Rattle.std.specs.Char.{is_ascii_digit, is_ascii_uppercase}
 use Rattle.mn_lexer.specs.Bytes.{is_word_start, is_word_byte}
@@ -14,13 +14,17 @@ abbrev pub IsWord : List ℕ → Type 0
 IsWord [] = ⊥
 IsWord (b ∷ bs) = IsTrue (is_word_start b) × IsTrue (list_all is_word_byte bs)
 
+-- one or more bytes, each of which passes the test
+abbrev pub OneOrMore : (ℕ → Bool) → List ℕ → Type 0
+OneOrMore p bs = (0 < length bs) × IsTrue (list_all p bs)
+
 -- an optional `-`, then one or more decimal digits
 abbrev pub IsNumber : List ℕ → Type 0
-IsNumber bs = (0 < length (without_sign bs)) × IsTrue (list_all is_ascii_digit (without_sign bs))
+IsNumber bs = OneOrMore is_ascii_digit (without_sign bs)
 
 -- `**`, a name of one or more capital letters, `**`
 abbrev pub IsHead : List ℕ → Type 0
-IsHead bs = (name : List ℕ) × (0 < length name) × IsTrue (list_all is_ascii_uppercase name) × (bs ≡ codes "**" ++ name ++ codes "**")
+IsHead bs = (name : List ℕ) × OneOrMore is_ascii_uppercase name × (bs ≡ codes "**" ++ name ++ codes "**")
 
 -- one of the marks, as it is written
 abbrev pub IsMark : List ℕ → Type 0

@@ -20,7 +20,8 @@ mark_text Dots = codes ".."
 
 abbrev pub all_marks : List Mark
 all_marks =
-    OpenSquare ∷ CloseSquare ∷ OpenCurly ∷ CloseCurly ∷ OpenRound ∷ CloseRound ∷ Less ∷ Greater ∷ Comma ∷ Equals ∷ Bang ∷ Dots ∷ []
+    OpenSquare ∷ CloseSquare ∷ OpenCurly ∷ CloseCurly ∷ OpenRound ∷ CloseRound
+    ∷ Less ∷ Greater ∷ Comma ∷ Equals ∷ Bang ∷ Dots ∷ []
 
 -- the mark that is written so. Bytes that write none give `!`: nothing asks for those.
 abbrev pub mark_of : List ℕ → Mark

@@ -15,7 +15,8 @@ magnitude bs = digits_value 10 (without_sign bs)
 
 -- the value of a number by its bytes: negative behind a `-`
 abbrev pub number_value : List ℕ → ℤ
-number_value bs = if slice_index bs 0 == byte "-" then neg_ℤ (pos (magnitude bs)) else pos (magnitude bs)
+number_value bs =
+    if slice_index bs 0 == byte "-" then neg_ℤ (pos (magnitude bs)) else pos (magnitude bs)
 
 -- a value that may stand in a text: from minus the limit to the limit
 abbrev pub IsWithinLimit : ℤ → Type 0

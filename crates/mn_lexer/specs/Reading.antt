@@ -33,17 +33,23 @@ pub record IsNext (text : List ℕ) (at : ℕ) (t : Token) : Type 0 where
 abbrev pub is_end : List ℕ → Token → Bool
 is_end text t = bytes_eq (bytes_of text t) (codes "**EOF**")
 
--- The list of tokens ends before `at`: with the text, at a byte that begins no token, or at a number past the limit.
+-- the longest token at the front of bs is a number past the limit
+abbrev pub BeginsPastNumber : List ℕ → Type 0
+BeginsPastNumber bs = (n : ℕ) × IsLongest bs kind.Number n × (¬ IsWithinLimit (number_value (take n bs)))
+
+-- The list of tokens ends before `at`: with the text, at a byte that begins no token, or at a number past
+-- the limit.
 abbrev pub Ends : List ℕ → ℕ → Option LexFault → Type 0
 Ends text at None = length text ≤ at
 Ends text at (Some (Lex place)) = (place ≡ at) × (at < length text) × BeginsNoToken (drop at text)
-Ends text at (Some (NumberRange place)) =
-    (place ≡ at) × ((n : ℕ) × IsLongest (drop at text) kind.Number n × (IsWithinLimit (number_value (take n (drop at text))) → ⊥))
+Ends text at (Some (NumberRange place)) = (place ≡ at) × BeginsPastNumber (drop at text)
 
--- From `at` on the text is cut into these tokens, up to the first `**EOF**` or before what ends the list.
+-- From `at` on the text is cut into these tokens, up to the first `**EOF**` or to what ends the list.
 abbrev pub Cuts : List ℕ → ℕ → List Token → Option LexFault → Type 0
 Cuts text at [] stop = Ends text (next_place text at) stop
-Cuts text at (t ∷ ts) stop = IsNext text at t × MatchBool (is_end text t) ((ts ≡ []) × (stop ≡ None)) (Cuts text (t.at + t.len) ts stop)
+Cuts text at (t ∷ ts) stop =
+    IsNext text at t
+    × MatchBool (is_end text t) ((ts ≡ []) × (stop ≡ None)) (Cuts text (t.at + t.len) ts stop)
 
 -- the tokens of the text, and the fault that ends them if one does
 abbrev pub IsLexed : List ℕ → List Token → Option LexFault → Type 0
@@ -57,4 +63,6 @@ pub record IsTokenOf (text : List ℕ) (t : Token) : Type 0 where
 
 -- no text has two lists of tokens
 abbrev pub OneReading : Type 0
-OneReading = (text : List ℕ) (ts us : List Token) (p q : Option LexFault) → IsLexed text ts p → IsLexed text us q → (ts ≡ us) × (p ≡ q)
+OneReading =
+    (text : List ℕ) (ts us : List Token) (p q : Option LexFault)
+    → IsLexed text ts p → IsLexed text us q → (ts ≡ us) × (p ≡ q)

@@ -1,7 +1,9 @@
-// The classes of bytes, by what they begin. `Letter` has `_` too, and `Mark` has the marks of one byte.
+// The classes of bytes, by what they begin. `Letter` has `_` too, and `Mark` the marks of one byte.
 ghost use Rattle.std.specs.Prelude.{◌≡◌, IsTrue};
 ghost use Rattle.mn_lexer.specs.Bytes.{is_word_byte};
 ghost use Rattle.mn_lexer.specs.FirstBytes.{is_of_class};
+
+use Class::{Blank, Digit, Dot, Hash, Letter, Mark, Minus, Other, Star};
 
 #[derive(Clone, Copy)]
 pub enum Class {
@@ -15,8 +17,6 @@ pub enum Class {
     Dot,
     Other,
 }
-
-use Class::{Blank, Digit, Dot, Hash, Letter, Mark, Minus, Other, Star};
 
 static CLASSES: [Class; 256] = [
     Other, Other, Other, Other, Other, Other, Other, Other, Other, Blank, Blank, Other, Other,

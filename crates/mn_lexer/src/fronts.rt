@@ -1,5 +1,5 @@
 // What stands at the front of the rest of a text: the longest token, or what is left of a comment.
-ghost use Rattle.std.specs.Prelude.{◌≡◌, ◌+◌, ◌<◌, ◌≤◌, length, Some, slice_index, IsTrue, MatchOption};
+ghost use Rattle.std.specs.Prelude.{◌≡◌, slice_index, IsTrue, MatchOption};
 ghost use Rattle.std.specs.Char.{is_ascii_digit, is_ascii_uppercase};
 ghost use Rattle.std.specs.List.{prefix_len, position_or_len};
 ghost use Rattle.std.specs.Str.{byte};
@@ -76,7 +76,9 @@ fn dots_len(rest: &[u8]) -> Option<usize>
 // The longest token at the front, whose first byte is of this class: its kind and its length.
 pub fn front(rest: &[u8], class: Class) -> Option<(TokenKind, usize)>
     requires { IsTrue (is_of_class class (slice_index rest.now 0)) }
-    ensures { MatchOption result (BeginsNoToken rest.now) (λ found. IsLongest rest.now found.0 found.1) }
+    ensures { MatchOption result
+        (BeginsNoToken rest.now)
+        (λ found. IsLongest rest.now found.0 found.1) }
 {
     match class {
         Class::Letter => Some((TokenKind::Word, word_bytes(rest))),

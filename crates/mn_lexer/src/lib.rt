@@ -1,9 +1,10 @@
-//! The lexer of the Minion 3 language: it cuts a text into its tokens, up to the first `**EOF**` or the
-//! first fault.
+//! The lexer of the Minion 3 language: it cuts a text into its tokens, up to the first `**EOF**` or
+//! the first fault.
 //!
-//! A token is a word, a number, a head such as `**SEARCH**` or a mark, always the longest that begins at its
-//! place. Blanks and comments may stand between tokens. `tokens` answers the one list of tokens that the
-//! text has, and where a fault ends it, that fault and its place: `IsLexed` says so for every text.
+//! A token is a word, a number, a head such as `**SEARCH**` or a mark, always the longest that begins
+//! at its place. Blanks and comments may stand between tokens. `tokens` answers the one list of tokens
+//! that the text has, and where a fault ends it, that fault and its place: `IsLexed` says so for every
+//! text.
 //!
 //! The crate stands on std alone.
 #![tactic(auto)]
@@ -65,6 +66,7 @@ pub enum LexFault {
 #[derive(Debug, Drop)]
 pub struct Lexed {
     pub list: Tokens,
+    /// None where the list ends with `**EOF**` or with the text.
     pub stop: Option<LexFault>,
 }
 
@@ -113,6 +115,7 @@ fn next_from(text: &[u8], from: usize) -> Next
     Next::Stop(None)
 }
 
+// Whether the token is `**EOF**`.
 fn is_end(text: &[u8], token: Token) -> bool
     requires { token.at + token.len ≤ length text.now }
     ensures { result ≡ is_end text.now token }
@@ -122,8 +125,8 @@ fn is_end(text: &[u8], token: Token) -> bool
     &text[at..end] == b"**EOF**".as_slice()
 }
 
-/// The tokens of a text, up to the first `**EOF**`, the first fault or the end of the text. It takes one
-/// pass, and no memory but that of the list.
+/// The tokens of a text, up to the first `**EOF**`, the first fault or the end of the text. It takes
+/// one pass, and no memory but that of the list.
 pub fn tokens(alloc: Global, text: &[u8]) -> Result<Lexed, NoMemory>
     requires { length text.now ≤ TEXT_LIMIT }
     // This is the one reading of the text: which tokens it has, and which fault ends them.

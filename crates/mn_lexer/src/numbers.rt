@@ -1,17 +1,19 @@
 // The values of numbers.
-ghost use Rattle.std.specs.Prelude.{◌≡◌, ◌+◌, ◌≤◌, ◌<◌, ℤ, IsTrue, MatchOption, ◌↔◌};
+ghost use Rattle.std.specs.Prelude.{◌≡◌, ◌≤◌, ◌<◌, IsTrue, MatchOption, ◌↔◌};
 ghost use Rattle.std.specs.List.{list_all};
 ghost use Rattle.std.specs.Char.{is_ascii_digit};
 ghost use Rattle.std.specs.Str.Parse.{digits_value};
 ghost use Rattle.mn_lexer.specs.Forms.{IsNumber};
-ghost use Rattle.mn_lexer.specs.Numbers.{number_value, without_sign, magnitude, IsWithinLimit};
+ghost use Rattle.mn_lexer.specs.Numbers.{number_value, without_sign, IsWithinLimit};
 
 use super::NUMBER_LIMIT;
 
 // The value of decimal digits, or None where it is past the limit.
 fn value_of_digits(digits: &[u8]) -> Option<u64>
     requires { IsTrue (list_all is_ascii_digit digits.now) }
-    ensures { MatchOption result (NUMBER_LIMIT < digits_value 10 digits.now) (λ value. (value ≤ NUMBER_LIMIT) × (value ≡ digits_value 10 digits.now)) }
+    ensures { MatchOption result
+        (NUMBER_LIMIT < digits_value 10 digits.now)
+        (λ value. (value ≤ NUMBER_LIMIT) × (value ≡ digits_value 10 digits.now)) }
 {
     let mut value: u64 = 0;
     for digit in digits {
