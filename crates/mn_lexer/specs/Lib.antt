@@ -1,0 +1,9 @@
+pub mod Bytes
+pub mod Marks
+pub mod Numbers
+pub mod Forms
+pub mod Gaps
+pub mod Reading
+pub mod FirstBytes
+pub mod Next
+pub mod Terminals
