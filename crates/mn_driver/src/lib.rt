@@ -11,12 +11,12 @@
 mod load;
 mod meaning;
 mod odometer;
+mod program;
 mod report;
-mod run;
 mod solve;
 mod status;
 
-pub use run::run;
+pub use program::run;
 pub use status::{Ended, Status, Usage};
 
 #[cfg(test)]

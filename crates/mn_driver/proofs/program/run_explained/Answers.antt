@@ -4,7 +4,7 @@ use Rattle.mn_driver.specs.Explains.{Explains}
 use Rattle.mn_driver.specs.Words.{asked}
 use Rattle.mn_driver.specs.declared.status.Status.{Status}
 use Rattle.mn_driver.proofs.Flushed.{explained_later, explained_failed}
-use Rattle.mn_driver.proofs.run.run_explained.Goals as goal
+use Rattle.mn_driver.proofs.program.run_explained.Goals as goal
 
 pub returns-in-Ok-clause-explained : goal.returns-in-Ok-clause-explained
 returns-in-Ok-clause-explained g c =

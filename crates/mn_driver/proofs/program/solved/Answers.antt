@@ -3,7 +3,7 @@ use Rattle.mn_driver.specs.Explains.{Solves}
 use Rattle.mn_driver.specs.declared.status.Status.{Status}
 use Rattle.mn_driver.specs.declared.status.Status.TheVariants.{NoMemory}
 use Rattle.mn_driver.proofs.Lines.{memory_said}
-use Rattle.mn_driver.proofs.run.solved.Goals as goal
+use Rattle.mn_driver.proofs.program.solved.Goals as goal
 
 pub returns-in-NoMemory-clause-solves : goal.returns-in-NoMemory-clause-solves
 returns-in-NoMemory-clause-solves g c =

@@ -1,7 +1,7 @@
 use Rattle.std.proofs.Common.{map, string_bytes}
 use Rattle.mn_driver.specs.Words.{asked}
 use Rattle.mn_driver.proofs.Clauses as clauses
-use Rattle.mn_driver.proofs.run.run.Goals as goal
+use Rattle.mn_driver.proofs.program.run.Goals as goal
 
 pub returns-clause-complete : goal.returns-clause-complete
 returns-clause-complete g c = clauses.complete (g.F.Files.content c.args.files.now) (asked (map string_bytes c.args.words.now.items)) (g.F.Files.reading c.args.files.now) (g.F.Files.reading c.run_explained.new.files) (g.O.Sink.content c.args.out.now) (g.O.Sink.content c.run_explained.new.out) (g.O.Sink.faults c.args.out.now) (g.O.Sink.faults c.run_explained.new.out) c.run_explained.result.status c.run_explained.result.solutions c.run_explained.ensures.explained
