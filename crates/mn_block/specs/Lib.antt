@@ -1,0 +1,4 @@
+pub mod Leased
+pub mod Lending
+pub mod Lends
+pub mod Ownership

@@ -1,0 +1,119 @@
+// The words in use.
+ghost use Rattle.std.specs.Prelude.{◌≡◌, ◌+◌, ◌-◌, ◌^◌, ◌<◌, ◌≤◌, [], ◌∷◌, ◌++◌, length, take, replicate, slice_index, slice_index_or, slice_set, is_ok, IfOk, All, nat_lt, if◌then◌else◌};
+
+use crate::stack::Stack;
+use crate::words::{MOST_WORDS, Words};
+use std::alloc::{AllocError as NoMemory, Global};
+use std::marker::Model;
+
+/// Names the words of a block from `first` on: word `i` of it is word `first + i` of the block. It
+/// stays right when the block grows.
+#[derive(Clone, Copy)]
+pub struct Place {
+    pub first: usize,
+}
+
+/// A growing row of words.
+#[derive(Drop)]
+pub struct Block {
+    // Those past `len` are spare room.
+    words: Words,
+    len: usize,
+    alloc: Global,
+}
+
+impl Model for Block {
+    ghost use Rattle.std.specs.Prelude.{ℕ, ◌^◌, ◌<◌, ◌≤◌, List, length, take};
+
+    ghost Value = { List ℕ };
+
+    ghost view = { λ b. take b.len b.words };
+
+    ghost invariant = { λ b. (b.len ≤ length b.words) × (length b.words < 2 ^ 60) };
+}
+
+// The same words in a row that has room for `n` more. It has twice the room, so that growing word by
+// word is linear.
+fn grown(alloc: Global, words: &[u64], n: usize) -> Result<Words, NoMemory>
+    requires { length words.now < 2 ^ 60 }
+    ensures words { IfOk result (λ w. take (length words.now) w ≡ words.now) }
+    ensures room { IfOk result (λ w. length words.now + n ≤ length w) }
+    ensures fits { IfOk result (λ w. length w < 2 ^ 60) }
+{
+    let len = words.len();
+    if MOST_WORDS - len < n {
+        return Err(NoMemory);
+    }
+    let room = MOST_WORDS.min(2 * len).max(len + n);
+    let mut grown = Words::zeroed(alloc, room)?;
+    grown.write_front(words);
+    Ok(grown)
+}
+
+impl Block {
+    /// The block of no words. It takes no memory.
+    pub fn new(alloc: Global) -> Block
+        ensures { result ≡ [] }
+    {
+        Block {
+            words: Words::empty(alloc),
+            len: 0,
+            alloc,
+        }
+    }
+
+    /// Appends `n` words of 0. The memory may move.
+    pub fn extend(&mut self, n: usize) -> Result<Place, NoMemory>
+        ensures place { IfOk result (λ p. p.first ≡ length self.old) }
+        ensures words { self.new ≡ (if is_ok result then self.old ++ replicate n 0 else self.old) }
+    {
+        let first = self.len;
+        if self.words.as_slice().len() - first < n {
+            self.words = grown(self.alloc, &self.words.as_slice()[..first], n)?;
+        }
+        self.words.clear(first, n);
+        self.len = first + n;
+        Ok(Place { first })
+    }
+
+    /// Word `i` of the place.
+    pub fn get(&self, p: Place, i: usize) -> u64
+        requires { p.first + i < length self.now }
+        ensures { result ≡ slice_index self.now (p.first + i) }
+    {
+        self.words.get(p.first + i)
+    }
+
+    /// Writes word `i` of the place.
+    pub fn set(&mut self, p: Place, i: usize, word: u64)
+        requires { p.first + i < length self.old }
+        ensures { self.new ≡ slice_set self.old (p.first + i) word }
+    {
+        self.words.set(p.first + i, word);
+    }
+
+    /// Puts a copy of all words on the stack.
+    pub fn save(&mut self, stack: &mut Stack) -> Result<(), NoMemory>
+        ensures saved { stack.new ≡ (if is_ok result then stack.old ++ self.old ∷ [] else stack.old) }
+        ensures words { self.new ≡ self.old }
+    {
+        stack.push(&self.words.as_slice()[..self.len])
+    }
+
+    /// Takes the last saved copy off the stack and makes it the words. With none saved it answers
+    /// false and changes nothing.
+    pub fn restore(&mut self, stack: &mut Stack) -> bool
+        requires { All (λ saved. length saved ≡ length self.old) stack.old }
+        ensures answer { result ≡ nat_lt 0 (length stack.old) }
+        ensures words { self.new ≡ slice_index_or stack.old (length stack.old - 1) self.old }
+        ensures rest { stack.new ≡ take (length stack.old - 1) stack.old }
+        ensures len { length self.new ≡ length self.old }
+    {
+        let Some(saved) = stack.top() else {
+            return false;
+        };
+        self.words.write_front(saved);
+        stack.drop_top();
+        true
+    }
+}
