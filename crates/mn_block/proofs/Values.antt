@@ -1,14 +1,13 @@
 -- The machine values of the owner's structs: what is owned tells them, and is made of nothing.
-use Rattle.std.proofs.Common.{◌≡◌, ℕ, ◌^◌, ◌<◌, List, [], ◌∷◌, ◌++◌, refl, ◌∙◌, lit<, w64}
+use Rattle.std.proofs.Common.{◌≡◌, ℕ, ◌^◌, ◌<◌, List, [], ◌∷◌, ◌++◌, refl, ◌∙◌, w64}
 use seplogic.Ra.Ura.{Ura}
-use mir.Syntax.{ty_int, ty_ptr, ty_struct, tcons, tnil}
 use mir.Val.{Val, vint, vstruct, vcons, vnil, of_list}
 use base.Logic.{ent, emp}
 use base.Fml.{Fml}
 use types.Logic.{Logic, sem}
 use denote.RattleType.{RattleType}
 use denote.Builtin.{usize}
-use denote.RawPtr.{Ptr, RawPtr, block_ptr, null_ptr, ptr_val}
+use denote.RawPtr.{Ptr, RawPtr, ptr_val}
 use denote.Shadow.{shadow, makes_shadow}
 use denote.Struct.Struct.{Struct}
 

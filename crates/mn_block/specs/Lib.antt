@@ -1,4 +1,3 @@
-pub mod Leased
-pub mod Lending
-pub mod Lends
+pub mod Cells
 pub mod Ownership
+pub mod Words

@@ -8,7 +8,7 @@ use std::marker::Model;
 
 /// Names the words of a block from `first` on: word `i` of it is word `first + i` of the block. It
 /// stays right when the block grows.
-#[derive(Clone, Copy)]
+#[derive(Clone, Copy, PartialEq, Eq, Debug)]
 pub struct Place {
     pub first: usize,
 }
@@ -23,22 +23,23 @@ pub struct Block {
 }
 
 impl Model for Block {
-    ghost use Rattle.std.specs.Prelude.{ℕ, ◌^◌, ◌<◌, ◌≤◌, List, length, take};
+    ghost use Rattle.std.specs.Prelude.{ℕ, ◌≤◌, List, length, take};
+    ghost use Rattle.mn_block.specs.declared.words.TheConstants.{MOST_WORDS};
 
     ghost Value = { List ℕ };
 
     ghost view = { λ b. take b.len b.words };
 
-    ghost invariant = { λ b. (b.len ≤ length b.words) × (length b.words < 2 ^ 60) };
+    ghost invariant = { λ b. (b.len ≤ length b.words) × (length b.words ≤ MOST_WORDS) };
 }
 
 // The same words in a row that has room for `n` more. It has twice the room, so that growing word by
 // word is linear.
 fn grown(alloc: Global, words: &[u64], n: usize) -> Result<Words, NoMemory>
-    requires { length words.now < 2 ^ 60 }
+    requires { length words.now ≤ MOST_WORDS }
     ensures words { IfOk result (λ w. take (length words.now) w ≡ words.now) }
     ensures room { IfOk result (λ w. length words.now + n ≤ length w) }
-    ensures fits { IfOk result (λ w. length w < 2 ^ 60) }
+    ensures fits { IfOk result (λ w. length w ≤ MOST_WORDS) }
 {
     let len = words.len();
     if MOST_WORDS - len < n {
@@ -109,11 +110,79 @@ impl Block {
         ensures rest { stack.new ≡ take (length stack.old - 1) stack.old }
         ensures len { length self.new ≡ length self.old }
     {
-        let Some(saved) = stack.top() else {
+        if stack.is_empty() {
             return false;
-        };
-        self.words.write_front(saved);
+        }
+        self.words.write_front(stack.top());
         stack.drop_top();
         true
+    }
+}
+
+#[cfg(test)]
+mod tests {
+    use super::*;
+    use std::test::Fail;
+
+    // A call that was refused its memory has changed nothing, so it is made once more.
+    fn extended(block: &mut Block, n: usize) -> Result<Place, NoMemory>
+        ensures place { IfOk result (λ p. p.first ≡ length block.old) }
+        ensures words { IfOk result (λ _. block.new ≡ block.old ++ replicate n 0) }
+    {
+        match block.extend(n) {
+            Ok(place) => Ok(place),
+            Err(NoMemory) => block.extend(n),
+        }
+    }
+
+    fn saved(block: &mut Block, stack: &mut Stack) -> Result<(), NoMemory>
+        ensures saved { IfOk result (λ _. stack.new ≡ stack.old ++ block.old ∷ []) }
+        ensures words { IfOk result (λ _. block.new ≡ block.old) }
+    {
+        match block.save(stack) {
+            Ok(()) => Ok(()),
+            Err(NoMemory) => block.save(stack),
+        }
+    }
+
+    #[test]
+    fn restores_what_was_saved(rt: HostRuntime) -> Result<(), Fail> {
+        let mut block = Block::new(rt.alloc());
+        let mut stack = Stack::new(rt.alloc());
+        let pair = extended(&mut block, 2)?;
+        block.set(pair, 0, 5);
+        saved(&mut block, &mut stack)?;
+        block.set(pair, 0, 7);
+        assert!(rt; block.restore(&mut stack));
+        assert_eq!(rt; (block.get(pair, 0), block.get(pair, 1)), (5, 0));
+        assert!(rt; !block.restore(&mut stack));
+        Ok(())
+    }
+
+    #[test]
+    fn keeps_places(rt: HostRuntime) -> Result<(), Fail> {
+        let mut block = Block::new(rt.alloc());
+        let pair = extended(&mut block, 2)?;
+        block.set(pair, 0, 5);
+        let more = extended(&mut block, 100_000)?;
+        assert_eq!(rt; more.first, 2);
+        assert_eq!(rt; (block.get(pair, 0), block.get(pair, 1)), (5, 0));
+        Ok(())
+    }
+
+    // The second save writes over the memory of the copy that was taken off.
+    #[test]
+    fn saves_again(rt: HostRuntime) -> Result<(), Fail> {
+        let mut block = Block::new(rt.alloc());
+        let mut stack = Stack::new(rt.alloc());
+        let word = extended(&mut block, 1)?;
+        saved(&mut block, &mut stack)?;
+        block.restore(&mut stack);
+        block.set(word, 0, 9);
+        saved(&mut block, &mut stack)?;
+        block.set(word, 0, 1);
+        block.restore(&mut stack);
+        assert_eq!(rt; block.get(word, 0), 9);
+        Ok(())
     }
 }

@@ -103,7 +103,7 @@ impl Cells {
 }
 
 impl Cells {
-    ghost use Rattle.mn_block.specs.Lending.{LendsCells};
+    ghost use Rattle.mn_block.specs.Cells.{LendsCells};
 
     pub(crate) fn as_mut_slice(&mut self) -> &mut [u64]
         ensures* writes_back { sem 𝓛 (LendsCells self.entry result) }

@@ -1,6 +1,5 @@
 // The saved copies.
-ghost use Rattle.std.specs.Prelude.{◌≡◌, ◌-◌, ◌<◌, [], ◌∷◌, ◌++◌, length, take, is_ok, if◌then◌else◌, slice_get};
-ghost use Rattle.std.specs.Option.{option_copied};
+ghost use Rattle.std.specs.Prelude.{◌≡◌, ◌==◌, ◌-◌, ◌<◌, [], ◌∷◌, ◌++◌, length, take, is_ok, if◌then◌else◌, slice_get};
 
 use crate::words::Words;
 use std::alloc::{AllocError as NoMemory, Global};
@@ -50,13 +49,17 @@ impl Stack {
         Ok(())
     }
 
-    pub(crate) fn top(&self) -> Option<&[u64]>
-        ensures { option_copied result ≡ slice_get self.now (length self.now - 1) }
+    pub(crate) fn is_empty(&self) -> bool
+        ensures { result ≡ (length self.now == 0) }
     {
-        if self.depth == 0 {
-            return None;
-        }
-        Some(self.copies[self.depth - 1].as_slice())
+        self.depth == 0
+    }
+
+    pub(crate) fn top(&self) -> &[u64]
+        requires { 0 < length self.now }
+        ensures { slice_get self.now (length self.now - 1) ≡ Some result.now }
+    {
+        self.copies[self.depth - 1].as_slice()
     }
 
     pub(crate) fn drop_top(&mut self)

@@ -22,7 +22,7 @@ impl Model for Words {
 
     ghost Value = { List ℕ };
 
-    ghost use Rattle.mn_block.specs.Leased.{IsLeased};
+    ghost use Rattle.mn_block.specs.Cells.{IsLeased};
 
     ghost view = { λ w. w.cells.words };
 
@@ -31,15 +31,26 @@ impl Model for Words {
 
 impl Drop for Words {
     fn drop(self) {
-        let Words { cells, lease, alloc } = self;
+        let Words {
+            cells,
+            lease,
+            alloc,
+        } = self;
         if let Some(lease) = lease {
             cells.free(lease, &alloc);
         }
     }
 }
 
+fn write_front(row: &mut [u64], words: &[u64])
+    requires { length words.now ≤ length row.old }
+    ensures { row.new ≡ words.now ++ drop (length words.now) row.old }
+{
+    row[..words.len()].copy_from_slice(words);
+}
+
 impl Words {
-    ghost use Rattle.mn_block.specs.Lends.{LendsWords};
+    ghost use Rattle.mn_block.specs.Words.{LendsWords};
 
     /// A row of no words. It takes no memory.
     pub fn empty(alloc: Global) -> Words
@@ -55,7 +66,7 @@ impl Words {
     /// A row of `len` words of 0.
     pub fn zeroed(alloc: Global, len: usize) -> Result<Words, NoMemory>
         ensures words { IfOk result (λ w. w ≡ replicate len 0) }
-        ensures fits { IfOk result (λ _. len < 2 ^ 60) }
+        ensures fits { IfOk result (λ _. len ≤ MOST_WORDS) }
     {
         if len > MOST_WORDS {
             return Err(NoMemory);
@@ -115,7 +126,7 @@ impl Words {
         requires { length words.now ≤ length self.old }
         ensures { self.new ≡ words.now ++ drop (length words.now) self.old }
     {
-        self.as_mut_slice()[..words.len()].copy_from_slice(words);
+        write_front(self.as_mut_slice(), words);
     }
 
     /// Writes 0 over the `n` words from `first` on.

@@ -1,5 +1,4 @@
 -- A `&` to the cells is made where one to a word is. Assumes `Logic`.
-use mathlib.Core.List.{[]}
 use mir.Syntax.{w64}
 use denote.Array.{Array, Array-row_laws}
 use denote.Builtin.{u64}

@@ -3,14 +3,14 @@ use Rattle.std.proofs.Common.{◌≡◌, ℕ, ◌*◌, ◌^◌, ◌<◌, List, [
 use seplogic.Ra.Ura.{Ura}
 use base.Fraction.{full_share}
 use mir.Syntax.{named}
-use mir.Val.{Val, vptr}
-use base.Logic.{SProp, ent, sep, id⊢}
+use mir.Val.{Val}
+use base.Logic.{ent, sep, id⊢}
 use base.Fml.{Lft, GName, Share, Fml, ftrue, feq, fsep, flft}
 use prog.Wp.{Env}
 use types.Logic.{Logic, sem}
 use types.SemTy.{cells}
 use contract.Running.{tables}
-use types.Kit.{‵, raw, ◌⊛◌, some, later, at_ret, ◌$◌, ◌∵◌, !, qed, by, move, keep, use1, use2, split, join, pick, await, rewrite, group, fsplit, fsplit3, fjoin, fpack, feq_i, feq_l, suffices, frame, done}
+use types.Kit.{‵, raw, ◌⊛◌, some, later, at_ret, ◌$◌, ◌∵◌, !, qed, move, keep, use1, split, join, pick, await, rewrite, group, fsplit, fsplit3, fjoin, fpack, feq_i, feq_l, suffices, frame, done}
 use types.Part.{whole, sub, look_in, agg}
 use types.Run.{stop, fld, load, no_more, and_then, of_opd, first, blocks, exec, returns, enter}
 use types.ByLocal.{alloc_all, pass_all, free_all, look_at, get, through, sets, sets_last, env}
@@ -35,7 +35,7 @@ use Rattle.mn_block.proofs.Values.{row_val, row_own, row_told}
 use Rattle.std.specs.List.{refill}
 use Rattle.std.proofs.lemmas.List.{take_at}
 use Rattle.std.proofs.Math.ListN.{drop as drop_l}
-use Rattle.mn_block.specs.Lending.{with_words}
+use Rattle.mn_block.specs.Cells.{with_words}
 use Rattle.mn_block.specs.declared.cells.Cells.{Cells}
 use Rattle.mn_block.specs.contracts.cells.Cells as C
 use Rattle.mn_block.specs.contracts.cells.Cells.as_mut_slice as f

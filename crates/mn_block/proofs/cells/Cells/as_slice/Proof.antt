@@ -1,24 +1,20 @@
 -- `as_slice` reads the pointer and the count through a `&`. Assumes `Logic`.
-use Rattle.std.proofs.Common.{◌≡◌, ℕ, ◌+◌, ◌*◌, ◌^◌, ◌<◌, List, [], ◌∷◌, length, refl, sym, subst, arith}
-use seplogic.Ra.Ura.{Ura}
-use mir.Syntax.{Fn, named}
+use Rattle.std.proofs.Common.{◌≡◌, ℕ, ◌+◌, ◌*◌, ◌^◌, ◌<◌, List, [], ◌∷◌, length, refl, sym, subst}
+use mir.Syntax.{named}
 use mir.Val.{Val, vptr}
-use base.Logic.{SProp, ent, sep}
 use base.Fml.{Lft, Share, ftrue, fhide, flft}
-use prog.Wp.{Env, WpFn}
-use types.Logic.{Logic, sem}
+use prog.Wp.{Env}
 use contract.Monad.{fact}
 use contract.Running.{tables}
-use types.Kit.{‵, raw, ◌⊛◌, at_ret, ◌$◌, ◌∵◌, !, qed, by, move, keep, use1, drop, split, join, fsplit, fjoin, feq_i, flt_i, suffices, frame, done}
+use types.Kit.{‵, raw, ◌⊛◌, at_ret, ◌$◌, ◌∵◌, !, qed, move, keep, use1, drop, split, join, fsplit, fjoin, feq_i, flt_i, suffices, frame, done}
 use types.Part.{agg}
-use types.Run.{look, hop, from, fld, stop, load, no_more, and_then, of_opd, first, blocks, exec, returns, enter}
+use types.Run.{look, fld, stop, load, no_more, and_then, of_opd, first, blocks, exec, returns, enter}
 use types.ByLocal.{alloc_all, pass_all, free_all, look_at, get, through, sets, sets_last, env}
 use denote.Memory.{hidden_shr}
-use denote.Builtin.{u64}
 use denote.Opens.{shr_dup, unhide, hide}
-use denote.Slice.{slice_val, elements_shared}
+use denote.Slice.{slice_val}
 use denote.RawPtr.{block_of, count_of, InBlock}
-use denote.Ref.{Bor, ShrRef, shr_vals, shr_Tells}
+use denote.Ref.{ShrRef, shr_vals, shr_Tells}
 use denote.Signature.{plain}
 use denote.Steps.{heard, nothing}
 use denote.Struct.Lending.{in_block_says, lent_out}

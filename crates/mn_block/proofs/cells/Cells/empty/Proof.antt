@@ -1,17 +1,16 @@
 -- `empty` points to a local of no words. Assumes `Logic`.
-use Rattle.std.proofs.Common.{◌≡◌, List, [], ◌∷◌, refl, lit<, w64}
+use Rattle.std.proofs.Common.{◌≡◌, [], ◌∷◌, refl, lit<}
 use mir.Syntax.{Fn}
 use mir.Val.{Val}
 use base.Fraction.{full_share}
 use base.Logic.{SProp, emp}
 use base.Fml.{ftrue}
-use prog.Wp.{Env, WpFn}
 use contract.Monad.{fact, fact_i}
 use contract.Running.{tables}
 use types.Kit.{‵, raw, ◌⊛◌, ◌$◌, ◌∵◌, !, qed, by, move, drop, use0, split, fjoin}
 use types.Part.{agg}
 use types.Run.{stop, from, lit, addr, no_more, and_then, returns, enter}
-use types.ByLocal.{alloc_all, pass_all, free_all, look_at, get, sets, env}
+use types.ByLocal.{alloc_all, pass_all, free_all, look_at, get, sets}
 use denote.RattleType.{owns}
 use denote.Array.{Array}
 use denote.Builtin.{u64}

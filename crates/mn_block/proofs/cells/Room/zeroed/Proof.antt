@@ -1,5 +1,5 @@
 -- `zeroed` writes the words one by one, from the first on. Assumes `Logic`.
-use Rattle.std.proofs.Common.{◌≡◌, ℕ, ◌+◌, ◌-◌, ◌*◌, ◌^◌, ◌≤◌, ◌<◌, List, [], ◌∷◌, ◌++◌, length, refl, sym, ap, ◌∙◌, arith, lit<}
+use Rattle.std.proofs.Common.{◌≡◌, ℕ, ◌+◌, ◌-◌, ◌*◌, ◌^◌, ◌≤◌, ◌<◌, List, [], ◌∷◌, ◌++◌, refl, sym, ap, ◌∙◌, arith, lit<}
 use Rattle.std.proofs.Math.ListN.{replicate}
 use Rattle.std.proofs.lemmas.List.{length-replicate, replicate_more}
 use mathlib.Core.WellFounded.InvImage
@@ -117,9 +117,9 @@ zeroed_spec 𝓤 𝓛 𝓜 𝓡 wired =
     let p : Ptr = block_ptr b o in
     let y : (cells.the_row).Denot = record { ptr = p; len = n; words = replicate n 0; fits = (sym (length-replicate n 0), x.fits) } in
     let exits : ent 𝓤 (sem 𝓛 (zeros b o n)) (Post (row_val p n)) =
-        qed 𝓛 (‵ (zeros b o n) ∷ []) ∵ use0 𝓛 (‵ (row_own p n (row_val p n ∷ []))) (row_made 𝓛 p n told.1) $ fjoin ! $
-        use0 𝓛 (raw (fact 𝓤 ((y.words ≡ replicate n 0) × (y.ptr ≡ x.ptr) × (y.len ≡ n)))) (fact_i 𝓤 ((y.words ≡ replicate n 0) × (y.ptr ≡ x.ptr) × (y.len ≡ n)) (emp 𝓤) (refl, sym at, refl)) $
-        nothing ! $ nothing ! $ fjoin ! $ nothing ! $ move ! (0 ∷ 1 ∷ 3 ∷ 2 ∷ []) $ by ! (leaves 𝓛 ended stays c z (row_val p n) y (tt, tt) (tt, tt)) in
+    qed 𝓛 (‵ (zeros b o n) ∷ []) ∵ use0 𝓛 (‵ (row_own p n (row_val p n ∷ []))) (row_made 𝓛 p n told.1) $ fjoin ! $
+    use0 𝓛 (raw (fact 𝓤 ((y.words ≡ replicate n 0) × (y.ptr ≡ x.ptr) × (y.len ≡ n)))) (fact_i 𝓤 ((y.words ≡ replicate n 0) × (y.ptr ≡ x.ptr) × (y.len ≡ n)) (emp 𝓤) (refl, sym at, refl)) $
+    nothing ! $ nothing ! $ fjoin ! $ nothing ! $ move ! (0 ∷ 1 ∷ 3 ∷ 2 ∷ []) $ by ! (leaves 𝓛 ended stays c z (row_val p n) y (tt, tt) (tt, tt)) in
     regoal ! (λ (us : List Val). prop (WpFn 𝓤 H 𝓣.C 𝓣.Λ fn us Post)) (λ i. (told.0 ∙ ap (λ (r : Ptr). row_val r n ∷ []) at) i ++ []) refl $
     enter ! 𝓣.C 𝓣.Λ fn (row_val p n ∷ []) Post $
     alloc_all ! (λ l. pass_all ! refl ((tt, (tt, (record { fits = told.1 }, tt))), tt) $

@@ -1,9 +1,16 @@
--- What a row of words ends as when all of it was lent.
-use Rattle.std.specs.Prelude.{ℕ, List}
+-- Raw words: who may free them, and what they end as when all of them were lent.
+use Rattle.std.specs.Prelude.{◌≡◌, ℕ, List, Option}
 use Rattle.std.specs.Borrow.{Array, Fml, Lends, MutBor, u64}
 use Rattle.std.specs.List.{refill, length_refill}
+use Rattle.std.specs.Option.{ForSome}
+use Rattle.std.specs.declared.alloc.Global.{Global}
 use Rattle.mn_block.specs.declared.cells.Cells.{Cells}
+use Rattle.mn_block.specs.declared.cells.Lease.{Lease}
 use Rattle.mn_block.specs.contracts.cells.Cells.{the_row}
+
+-- a lease is the right to free these cells by this allocator
+abbrev pub IsLeased : Cells → Option (Lease Global) → Global → Type 0
+IsLeased c lease alloc = ForSome lease (λ l. (l.alloc ≡ alloc) × (l.ptr ≡ c.ptr) × (l.len ≡ c.len))
 
 -- the cells with the words ws in place of theirs, which are as many
 abbrev pub with_words : Cells → List ℕ → Cells

@@ -1,4 +1,4 @@
--- What a row ends as when all of it was lent.
+-- What a row of words ends as when all of it was lent.
 use Rattle.std.specs.Prelude.{ℕ, List, length}
 use Rattle.std.specs.Borrow.{Array, Fml, Lends, MutBor, u64}
 use Rattle.std.specs.List.{refill}
