@@ -1,0 +1,26 @@
+-- A row of words as nodes: the next and the previous node of node k are words 2 k and 2 k + 1.
+use Rattle.std.specs.Prelude.{ℕ, ◌+◌, ◌*◌, ◌<◌, List, length, slice_index, slice_set}
+
+-- the row has the node k
+abbrev pub HasNode : List ℕ → ℕ → Type 0
+HasNode row k = 2 * k + 1 < length row
+
+-- the node after k
+abbrev pub next_node : List ℕ → ℕ → ℕ
+next_node row k = slice_index row (2 * k)
+
+-- the node before k
+abbrev pub prev_node : List ℕ → ℕ → ℕ
+prev_node row k = slice_index row (2 * k + 1)
+
+-- b follows a
+abbrev pub joined : List ℕ → ℕ → ℕ → List ℕ
+joined row a b = slice_set (slice_set row (2 * a) b) (2 * b + 1) a
+
+-- the nodes beside k follow each other
+abbrev pub unlinked : List ℕ → ℕ → List ℕ
+unlinked row k = joined row (prev_node row k) (next_node row k)
+
+-- k stands between h and the node after it
+abbrev pub inserted : List ℕ → ℕ → ℕ → List ℕ
+inserted row h k = joined (joined row h k) k (next_node row h)

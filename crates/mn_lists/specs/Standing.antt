@@ -1,0 +1,42 @@
+-- What stands on the lists and in the queues, and what each call makes of it.
+use Rattle.std.specs.Prelude.{◌≡◌, ℕ, ◌-◌, ◌<◌, ◌==◌, not, List, [], ◌∷◌, ◌++◌, Option, None, Some, All, count_by, filter, if◌then◌else◌, map, replicate, slice_index_or, slice_set, sum_by, unwrap_or, drop}
+use Rattle.std.specs.List.{range_with_len}
+use Rattle.std.specs.Option.{option_map}
+
+-- the triggers on each list, what is still ahead of the walk that is under way, and the two queues
+pub record Standing : Type 0 where
+  pub triggers : ℕ
+  pub lists : List (List ℕ)
+  pub walk : Option (List ℕ)
+  pub events : List ℕ
+  pub cons : ℕ
+  pub constraints : List ℕ
+
+-- how often n stands in xs
+abbrev pub count_of : ℕ → List ℕ → ℕ
+count_of n xs = count_by (λ x. x == n) xs
+
+-- each of n triggers stands once on one list and on no other, and nothing else stands on a list
+pub record EachOnOneList (n : ℕ) (lists : List (List ℕ)) : Type 0 where
+  pub once : (t : ℕ) → t < n → sum_by (count_of t) lists ≡ 1
+  pub only : All (All (λ t. t < n)) lists
+
+-- all triggers stand on the first of the lists, in order
+abbrev pub all_on_first : ℕ → ℕ → List (List ℕ)
+all_on_first n lists = range_with_len 0 n ∷ replicate (lists - 1) []
+
+-- xs but for t
+abbrev pub without : ℕ → List ℕ → List ℕ
+without t xs = filter (λ x. not (x == t)) xs
+
+-- t stands at the front of list l, and nowhere else
+abbrev pub moved_to : ℕ → ℕ → List (List ℕ) → List (List ℕ)
+moved_to t l lists = let others = map (without t) lists in slice_set others l (t ∷ slice_index_or others l [])
+
+-- what is ahead of the walk
+abbrev pub ahead : Option (List ℕ) → List ℕ
+ahead walk = unwrap_or walk []
+
+-- a queue after n was pushed: a number that is there already stays where it is
+abbrev pub pushed : ℕ → List ℕ → List ℕ
+pushed n xs = if count_of n xs == 0 then xs ++ n ∷ [] else xs
