@@ -1,5 +1,5 @@
 -- Nodes that lead from one to the next. Nodes below n are numbers that stand on a list, and each other node is an end.
-use Rattle.std.specs.Prelude.{◌≡◌, ℕ, zero, suc, ◌+◌, ◌≤◌, ◌<◌, List, [], ◌∷◌, Option, None, Some, All, if◌then◌else◌, length, map, nat_lt, slice_index_or}
+use Rattle.std.specs.Prelude.{◌≡◌, ℕ, zero, suc, ◌+◌, ◌≤◌, ◌<◌, ◌==◌, List, [], ◌∷◌, Option, None, Some, All, if◌then◌else◌, length, map, nat_lt, slice_index_or}
 use Rattle.std.specs.List.{range_with_len}
 use Rattle.mn_lists.specs.Standing.{EachOnOneList, count_of}
 
@@ -16,6 +16,10 @@ circles f n ends = map (λ h. chain f n n (f h)) (range_with_len n ends)
 abbrev pub Follow : (ℕ → ℕ) → ℕ → List ℕ → ℕ → Type 0
 Follow f s [] e = s ≡ e
 Follow f s (x ∷ xs) e = (s ≡ x) × Follow f (f x) xs e
+
+-- the node x, or the one after t in place of t
+abbrev pub skip : (ℕ → ℕ) → ℕ → ℕ → ℕ
+skip f t x = if x == t then f t else x
 
 -- f and g take nodes below m to such, and undo each other
 pub record Mutual (f g : ℕ → ℕ) (m : ℕ) : Type 0 where

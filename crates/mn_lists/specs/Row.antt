@@ -24,3 +24,7 @@ unlinked row k = joined row (prev_node row k) (next_node row k)
 -- k stands between h and the node after it
 abbrev pub inserted : List ℕ → ℕ → ℕ → List ℕ
 inserted row h k = joined (joined row h k) k (next_node row h)
+
+-- the nodes beside a node are nodes of the row too
+abbrev pub IsClosed : List ℕ → Type 0
+IsClosed row = (k : ℕ) → HasNode row k → HasNode row (next_node row k) × HasNode row (prev_node row k)

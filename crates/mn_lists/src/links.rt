@@ -1,8 +1,9 @@
 // The lists as circles of nodes. Node `k` is trigger `k`, and node `triggers + l` is the head of list
 // `l`. Each list is a circle through its head, so a move is the same at each place of a list.
-ghost use Rattle.std.specs.Prelude.{◌≡◌, ◌+◌, ◌<◌, None, Some, IsSome, IfOk, IfSome, length, slice_get, slice_index_or, drop};
+ghost use Rattle.std.specs.Prelude.{◌≡◌, ◌+◌, ◌<◌, [], None, Some, IsSome, IfOk, IfSome, length, slice_get, slice_index_or, drop};
 ghost use Rattle.std.specs.Option.{option_map};
-ghost use Rattle.mn_lists.specs.Row.{HasNode, next_node, prev_node, joined, unlinked, inserted};
+ghost use Rattle.mn_lists.specs.Circles.{skip};
+ghost use Rattle.mn_lists.specs.Row.{HasNode, IsClosed, next_node, prev_node, joined, unlinked, inserted};
 ghost use Rattle.mn_lists.specs.Standing.{EachOnOneList, all_on_first, ahead, count_of, moved_to, without};
 
 use mn_block::words::{MOST_WORDS, Words};
@@ -74,6 +75,30 @@ fn insert(row: &mut [u64], head: usize, node: usize)
     join(row, node, first);
 }
 
+// Takes `node` out of its circle and puts it behind `head`.
+fn move_node(row: &mut Words, node: usize, head: usize)
+    requires closed { IsClosed row.old }
+    requires node { HasNode row.old node }
+    requires head { HasNode row.old head }
+    ensures { row.new ≡ inserted (unlinked row.old node) head node }
+{
+    let row = row.as_mut_slice();
+    unlink(row, node);
+    insert(row, head, node);
+}
+
+// Where a walk goes on once `node` is out of its circle.
+fn passed(row: &[u64], cursor: Option<usize>, node: usize) -> Option<usize>
+    requires { HasNode row.now node }
+    ensures { result ≡ option_map (skip (next_node row.now) node) cursor }
+{
+    if cursor == Some(node) {
+        Some(next(row, node))
+    } else {
+        cursor
+    }
+}
+
 impl Links {
     pub(crate) fn move_to(&mut self, trigger: usize, list: usize)
         requires trigger { trigger < self.old.triggers }
@@ -84,11 +109,9 @@ impl Links {
         ensures count { length self.new.lists ≡ length self.old.lists }
         ensures one_list { EachOnOneList self.new.triggers self.new.lists }
     {
-        if self.cursor == Some(trigger) {
-            self.cursor = Some(next(self.row.as_slice(), trigger));
-        }
         let head = self.triggers + list;
-        move_node(self.row.as_mut_slice(), trigger, head);
+        self.cursor = passed(self.row.as_slice(), self.cursor, trigger);
+        move_node(&mut self.row, trigger, head);
     }
 
     pub(crate) fn walk_open(&mut self, list: usize)
@@ -125,13 +148,4 @@ impl Links {
     {
         self.cursor = None;
     }
-}
-
-// Takes `node` out of its circle and puts it behind `head`.
-fn move_node(row: &mut [u64], node: usize, head: usize)
-    requires { HasNode row.old head }
-    ensures { row.new ≡ inserted (unlinked row.old node) head node }
-{
-    unlink(row, node);
-    insert(row, head, node);
 }
