@@ -1,16 +1,16 @@
 -- A walk begins at the front of a list, and goes on node by node.
 use Rattle.std.proofs.Common.{◌≡◌, ℕ, zero, suc, ◌+◌, ◌≤◌, ◌<◌, Bool, false, cond, nat_lt, List, [], ◌∷◌, Option, None, Some, length, get_or, refl, sym, ap, subst, ◌∙◌, arith}
-use Rattle.std.specs.Prelude.{All}
+use Rattle.std.specs.Prelude.{All, drop, slice_get}
 use Rattle.std.proofs.lemmas.Bool.Decides.{nat_tests}
 use Rattle.std.proofs.lemmas.List.Elements.{All-tail}
-use Rattle.mn_lists.specs.Circles.{chain, Follow, IsRun}
-use Rattle.mn_lists.specs.Links.{AreLinks, lists_of}
+use Rattle.mn_lists.specs.Circles.{chain, Follow, IsRun, IsWalk}
+use Rattle.mn_lists.specs.Links.{AreLinks, Lines, lines_of, lists_of, walk_of}
 use Rattle.mn_lists.specs.Row.{next_node, prev_node}
-use Rattle.mn_lists.specs.Standing.{count_of}
+use Rattle.mn_lists.specs.Standing.{ahead, count_of}
 use Rattle.mn_lists.proofs.Cases.{by_same}
 use Rattle.mn_lists.proofs.Chains.{list_runs, run_is}
 use Rattle.mn_lists.proofs.Counts.{count_of-cons-le, count_of-cons_same}
-use Rattle.mn_lists.proofs.MovedLinks.{count}
+use Rattle.mn_lists.proofs.MovedLinks.{count, head_of}
 
 pub chain_ends : (f : ℕ → ℕ) (n most s : ℕ) → n ≤ s → chain f n most s ≡ []
 chain_ends f n zero s far = refl
@@ -74,3 +74,41 @@ module _ (row : List ℕ) (n heads : ℕ) (cursor : Option ℕ) (links : AreLink
 
     pub stepped : AreLinks row n heads (Some (f s))
     stepped = at_most (f s) (subst (IsRun f n (n + heads) (f s)) (sym others_are) step.run)
+
+-- ---- what the calls of a walk leave, from what their calls ensure
+module _ (row : List ℕ) (n heads : ℕ) (cursor : Option ℕ) (old : Lines) (links : AreLinks row n heads cursor) (view : lines_of row n heads cursor ≡ old) where
+  -- where the walk goes on at s, the walk that is seen from outside is the chain from s on
+  ahead_was : (s : ℕ) → cursor ≡ Some s → ahead old.walk ≡ chain (next_node row) n n s
+  ahead_was s at = ap (λ (v : Lines). ahead v.walk) (sym view) ∙ ap (λ (c : Option ℕ). ahead (walk_of row n c)) at
+
+  pub ended : (s : ℕ) → cursor ≡ Some s → n ≤ s → None ≡ slice_get (ahead old.walk) 0
+  ended s at far = ap (λ (xs : List ℕ). slice_get xs 0) (sym (ahead_was s at ∙ chain_ends (next_node row) n n s far))
+
+  pub record GoesOn (s next : ℕ) : Type 0 where
+    pub still : AreLinks row n heads (Some next)
+    pub given : Some s ≡ slice_get (ahead old.walk) 0
+    pub rest : Some (chain (next_node row) n n next) ≡ Some (drop 1 (ahead old.walk))
+    pub once : count_of s (chain (next_node row) n n next) ≡ 0
+
+  pub goes_on : (s next : ℕ) (read : List ℕ) → cursor ≡ Some s → s < n → next ≡ next_node read s → read ≡ row → GoesOn s next
+  goes_on s next read at below next_is read_is =
+      let run = subst (IsWalk (next_node row) n (n + heads)) at links.walking in
+      let was : ahead old.walk ≡ s ∷ chain (next_node row) n n (next_node row s) = ahead_was s at ∙ ahead_is row n heads cursor links s run below in
+      subst (GoesOn s) (sym (next_is ∙ ap (λ (r : List ℕ). next_node r s) read_is)) (record {
+        still = stepped row n heads cursor links s run below;
+        given = ap (λ (xs : List ℕ). slice_get xs 0) (sym was);
+        rest = ap (λ (xs : List ℕ). Some (drop 1 xs)) (sym was);
+        once = met_once row n heads cursor links s run below;
+      })
+
+  pub record Opens (l next : ℕ) : Type 0 where
+    pub still : AreLinks row n heads (Some next)
+    pub all : Some (chain (next_node row) n n next) ≡ Some (get_or old.lists l [])
+
+  pub opens : (l next : ℕ) (read : List ℕ) → l < length old.lists → next ≡ next_node read (n + l) → read ≡ row → Opens l next
+  opens l next read h next_is read_is =
+      let inside = head_of row n heads cursor old l links view h in
+      subst (Opens l) (sym (next_is ∙ ap (λ (r : List ℕ). next_node r (n + l)) read_is)) (record {
+        still = opened row n heads cursor links l inside;
+        all = ap (λ (xs : List ℕ). Some xs) (ahead_at_front row n heads cursor links l inside ∙ ap (λ (v : Lines). get_or v.lists l []) view);
+      })

@@ -18,6 +18,10 @@ lists_of row n heads = circles (next_node row) n heads
 abbrev pub walk_of : List ℕ → ℕ → Option ℕ → Option (List ℕ)
 walk_of row n cursor = option_map (chain (next_node row) n n) cursor
 
+-- both
+abbrev pub lines_of : List ℕ → ℕ → ℕ → Option ℕ → Lines
+lines_of row n heads cursor = record { triggers = n; lists = lists_of row n heads; walk = walk_of row n cursor }
+
 -- the row has the nodes of n triggers and so many heads, in circles, and the walk goes on at one of them
 pub record AreLinks (row : List ℕ) (n heads : ℕ) (cursor : Option ℕ) : Type 0 where
   pub nodes : length row ≡ 2 * (n + heads)

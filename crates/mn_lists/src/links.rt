@@ -20,11 +20,11 @@ pub(crate) struct Links {
 }
 
 impl Model for Links {
-    ghost use Rattle.mn_lists.specs.Links.{Lines, lists_of, walk_of, AreLinks};
+    ghost use Rattle.mn_lists.specs.Links.{AreLinks, Lines, lines_of};
 
     ghost Value = { Lines };
 
-    ghost view = { λ l. record { triggers = l.triggers; lists = lists_of l.row l.triggers l.heads; walk = walk_of l.row l.triggers l.cursor } };
+    ghost view = { λ l. lines_of l.row l.triggers l.heads l.cursor };
 
     ghost invariant = { λ l. AreLinks l.row l.triggers l.heads l.cursor };
 }
