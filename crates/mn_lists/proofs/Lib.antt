@@ -3,6 +3,8 @@ pub mod Chains
 pub mod Counts
 pub mod MovedLinks
 pub mod Moves
+pub mod Queues
 pub mod Relinked
 pub mod Rows
+pub mod Starts
 pub mod Walks

@@ -16,6 +16,10 @@ follower row k = slice_index row k - 1
 abbrev pub items_of : List ℕ → ℕ → ℕ → List ℕ
 items_of row n first = chain (follower row) n n first
 
+-- both
+abbrev pub line_of : List ℕ → ℕ → ℕ → Line
+line_of row n first = record { numbers = n; items = items_of row n first }
+
 -- xs stand in the row from the first to the last, and each number's word tells whether it is there
 pub record IsQueue (row : List ℕ) (n first last_one : ℕ) (xs : List ℕ) : Type 0 where
   pub nodes : length row ≡ n

@@ -1,13 +1,14 @@
 // The lists as circles of nodes. Node `k` is trigger `k`, and node `triggers + l` is the head of list
 // `l`. Each list is a circle through its head, so a move is the same at each place of a list.
-ghost use Rattle.std.specs.Prelude.{◌≡◌, ◌+◌, ◌<◌, [], None, Some, IsSome, IfOk, IfSome, length, slice_get, slice_index_or, drop};
+ghost use Rattle.std.specs.Prelude.{◌≡◌, ◌+◌, ◌^◌, ◌<◌, [], None, Some, IsSome, IfOk, IfSome, length, slice_get, slice_index_or, drop};
 ghost use Rattle.std.specs.Option.{option_map};
 ghost use Rattle.mn_lists.specs.Circles.{skip};
-ghost use Rattle.mn_lists.specs.Row.{HasNode, IsClosed, next_node, prev_node, joined, unlinked, inserted};
+ghost use Rattle.mn_lists.specs.Row.{HasNode, IsClosed, StandsAtFirst, first_next, next_node, prev_node, joined, unlinked, inserted};
 ghost use Rattle.mn_lists.specs.Standing.{EachOnOneList, all_on_first, ahead, count_of, moved_to, without};
 
 use mn_block::words::{MOST_WORDS, Words};
 use std::alloc::{AllocError as NoMemory, Global};
+use std::cmp::Ordering;
 use std::marker::Model;
 
 pub(crate) struct Links {
@@ -51,6 +52,29 @@ fn join(row: &mut [u64], node: usize, after: usize)
 {
     row[2 * node] = after as u64;
     row[2 * after + 1] = node as u64;
+}
+
+// The node after `node` at the beginning: the triggers stand on the first list, in order, and each
+// other head leads to itself.
+fn starting_next(triggers: usize, node: usize) -> usize
+    requires { node + 1 < 2 ^ 64 }
+    ensures { result ≡ first_next triggers node }
+{
+    match node.cmp(&triggers) {
+        Ordering::Less => node + 1,
+        Ordering::Equal => 0,
+        Ordering::Greater => node,
+    }
+}
+
+// Links all nodes as they stand at the beginning.
+fn link_all(row: &mut [u64], triggers: usize)
+    requires { HasNode row.old triggers }
+    ensures { StandsAtFirst row.new triggers }
+{
+    for node in 0..row.len() / 2 {
+        join(row, node, starting_next(triggers, node));
+    }
 }
 
 // Takes `node` out of its circle.
@@ -100,6 +124,28 @@ fn passed(row: &[u64], cursor: Option<usize>, node: usize) -> Option<usize>
 }
 
 impl Links {
+    // All triggers stand on the first list, in order.
+    pub(crate) fn new(alloc: Global, triggers: usize, heads: usize) -> Result<Links, NoMemory>
+        requires { 0 < heads }
+        ensures triggers { IfOk result (λ l. l.triggers ≡ triggers) }
+        ensures lists { IfOk result (λ l. l.lists ≡ all_on_first triggers heads) }
+        ensures walk { IfOk result (λ l. l.walk ≡ None) }
+        ensures one_list { IfOk result (λ l. EachOnOneList l.triggers l.lists) }
+    {
+        let most = MOST_WORDS / 2;
+        if most < triggers || most - triggers < heads {
+            return Err(NoMemory);
+        }
+        let mut row = Words::zeroed(alloc, 2 * (triggers + heads))?;
+        link_all(row.as_mut_slice(), triggers);
+        Ok(Links {
+            row,
+            triggers,
+            heads,
+            cursor: None,
+        })
+    }
+
     pub(crate) fn move_to(&mut self, trigger: usize, list: usize)
         requires trigger { trigger < self.old.triggers }
         requires list { list < length self.old.lists }
