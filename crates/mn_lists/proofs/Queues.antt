@@ -6,7 +6,7 @@ use Rattle.std.proofs.lemmas.List.{get_or-append-add, get_or-replicate, get_or-s
 use Rattle.std.proofs.lemmas.List.Elements.{All-cons, All-get_or, All-head, All-nil, All-push, All-tail, All-weaker}
 use Rattle.std.proofs.lemmas.List.Sums.{sum_by-append}
 use Rattle.mn_lists.specs.Circles.{chain, Follow}
-use Rattle.mn_lists.specs.Queue.{IsQueue, follower, items_of}
+use Rattle.mn_lists.specs.Queue.{IsQueue, Line, follower, items_of, line_of}
 use Rattle.mn_lists.specs.Standing.{count_of, pushed}
 use Rattle.mn_lists.proofs.Cases.{by_same, cond_same, cond_other}
 use Rattle.mn_lists.proofs.Chains.{chain_is}
@@ -96,7 +96,6 @@ pub pushed_behind : (row : List ℕ) (n first last_one : ℕ) (xs : List ℕ) �
     → IsQueue (set (set row c (n + 1)) last_one (c + 1)) n first c (xs ++ c ∷ [])
 pushed_behind row n first last_one [] q c here free some = absurd (some q.follows)
 pushed_behind row n first last_one (x ∷ xs) q c here free some =
-    let f = follower row in
     let row₁ : List ℕ = set row c (n + 1) in
     let row₂ : List ℕ = set row₁ last_one (c + 1) in
     let tail_at : length (x ∷ xs) - 1 ≡ length xs = omega arith in
@@ -165,3 +164,38 @@ pops row n first last_one (x ∷ xs) q some =
         ends = ends_tail x xs last_one q.ends;
       };
     })
+
+-- ---- what the calls leave, from what their calls ensure
+pub record Holds (row : List ℕ) (n first last_one : ℕ) (xs : List ℕ) : Type 0 where
+  pub queue : IsQueue row n first last_one (items_of row n first)
+  pub items : items_of row n first ≡ xs
+
+pub holds : (row : List ℕ) (n first last_one : ℕ) (xs : List ℕ) → IsQueue row n first last_one xs → Holds row n first last_one xs
+holds row n first last_one xs q =
+    let e = items_are row n first last_one xs q in record { queue = subst (IsQueue row n first last_one) (sym e) q; items = e }
+
+module _ (row : List ℕ) (n first last_one : ℕ) (old : Line) (q : IsQueue row n first last_one (items_of row n first)) (view : line_of row n first ≡ old) where
+  abbrev items_were : items_of row n first ≡ old.items
+  items_were = ap (λ (v : Line). v.items) view
+
+  pub left_by_pop : (row' : List ℕ) (word : ℕ) → first ≢ n → row' ≡ set row first 0 → word ≡ get_or row first 0 → Holds row' n (word - 1) last_one (drop 1 old.items)
+  left_by_pop row' word some row_is word_is =
+      let P : List ℕ × ℕ × List ℕ → Type 0 = λ u. Holds u.0 n (u.1 - 1) last_one (drop 1 u.2) in
+      subst P (λ i. (sym row_is i, sym word_is i, items_were i)) (holds (set row first 0) n (get_or row first 0 - 1) last_one (drop 1 (items_of row n first)) (pops row n first last_one (items_of row n first) q some).rest)
+
+  module _ (c : ℕ) (here : c < n) (word : ℕ) (word_is : word ≡ get_or row c 0) where
+    pub left_by_push : word ≢ 0 → items_of row n first ≡ pushed c old.items
+    left_by_push taken = stays row n first last_one (items_of row n first) q c here (λ e. taken (word_is ∙ e)) ∙ ap (pushed c) items_were
+
+    pub left_by_push_first : (row' : List ℕ) → word ≡ 0 → first ≡ n → row' ≡ set row c (n + 1) → Holds row' n c c (pushed c old.items)
+    left_by_push_first row' free at_end row_is =
+        let xs : List ℕ = items_of row n first in
+        let P : List ℕ × List ℕ → Type 0 = λ u. Holds u.0 n c c u.1 in
+        subst P (λ i. (sym row_is i, (joins row n first last_one xs q c here (sym word_is ∙ free) ∙ ap (pushed c) items_were) i)) (holds (set row c (n + 1)) n c c (xs ++ c ∷ []) (pushed_first row n first last_one xs q c here at_end))
+
+    pub left_by_push_behind : (row' row'' : List ℕ) → word ≡ 0 → first ≢ n → row' ≡ set row c (n + 1) → row'' ≡ set row' last_one (c + 1) → Holds row'' n first c (pushed c old.items)
+    left_by_push_behind row' row'' free some row_is then_is =
+        let xs : List ℕ = items_of row n first in
+        let whole : row'' ≡ set (set row c (n + 1)) last_one (c + 1) = then_is ∙ ap (λ (r : List ℕ). set r last_one (c + 1)) row_is in
+        let P : List ℕ × List ℕ → Type 0 = λ u. Holds u.0 n first c u.1 in
+        subst P (λ i. (sym whole i, (joins row n first last_one xs q c here (sym word_is ∙ free) ∙ ap (pushed c) items_were) i)) (holds (set (set row c (n + 1)) last_one (c + 1)) n first c (xs ++ c ∷ []) (pushed_behind row n first last_one xs q c here (sym word_is ∙ free) some))
