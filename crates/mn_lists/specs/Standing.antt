@@ -25,6 +25,10 @@ pub record EachOnOneList (n : ℕ) (lists : List (List ℕ)) : Type 0 where
 abbrev pub all_on_first : ℕ → ℕ → List (List ℕ)
 all_on_first n lists = range_with_len 0 n ∷ replicate (lists - 1) []
 
+-- all triggers on the first of the lists, nothing queued, and no walk
+abbrev pub as_made : ℕ → ℕ → ℕ → Standing
+as_made lists triggers cons = record { triggers = triggers; lists = all_on_first triggers lists; walk = None; events = []; cons = cons; constraints = [] }
+
 -- xs but for t
 abbrev pub without : ℕ → List ℕ → List ℕ
 without t xs = filter (λ x. not (x == t)) xs

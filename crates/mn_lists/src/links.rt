@@ -11,6 +11,7 @@ use std::alloc::{AllocError as NoMemory, Global};
 use std::cmp::Ordering;
 use std::marker::Model;
 
+#[derive(Drop)]
 pub(crate) struct Links {
     // The next and the previous node of node `k` are the words `2 * k` and `2 * k + 1`.
     row: Words,

@@ -6,6 +6,7 @@ use mn_block::words::Words;
 use std::alloc::{AllocError as NoMemory, Global};
 use std::marker::Model;
 
+#[derive(Drop)]
 pub(crate) struct Queue {
     // The word of a number that is in the queue is one more than the number after it, and of any other
     // number 0. After the last one comes `numbers`.
