@@ -1,6 +1,6 @@
 -- A chain of nodes is the numbers that stand along it.
-use Rattle.std.proofs.Common.{◌≡◌, ◌≢◌, ℕ, zero, suc, ◌+◌, ◌≤◌, ◌<◌, Bool, true, false, cond, nat_lt, nat_eq, List, [], ◌∷◌, length, get_or, refl, sym, ap, subst, ◌∙◌, arith}
-use Rattle.std.specs.Prelude.{All, map}
+use Rattle.std.proofs.Common.{◌≡◌, ℕ, zero, suc, ◌+◌, ◌≤◌, ◌<◌, Bool, true, false, cond, nat_lt, List, [], ◌∷◌, length, get_or, refl, sym, ap, subst, ◌∙◌, arith}
+use Rattle.std.specs.Prelude.{All}
 use Rattle.std.specs.List.{range_with_len}
 use Rattle.std.proofs.lemmas.Bool.Decides.{nat_tests}
 use Rattle.std.proofs.lemmas.List.{ext_get_or, length-map}
@@ -8,7 +8,7 @@ use Rattle.std.proofs.lemmas.List.Elements.{All-head, All-tail, All-get_or}
 use Rattle.std.proofs.lemmas.List.FromFn.{get_or-map-range_with_len, length-range_with_len}
 use Rattle.std.proofs.lemmas.List.Sums.{get_or-le-sum_by}
 use Rattle.mn_lists.specs.Circles.{chain, circles, Follow, IsLinked, IsRun}
-use Rattle.mn_lists.specs.Standing.{EachOnOneList, count_of}
+use Rattle.mn_lists.specs.Standing.{count_of}
 use Rattle.mn_lists.proofs.Counts.{few}
 
 pub chain_is : (f : ℕ → ℕ) (n e : ℕ) → n ≤ e → (xs : List ℕ) (s most : ℕ) → Follow f s xs e → All (λ x. x < n) xs → length xs ≤ most → chain f n most s ≡ xs

@@ -1,7 +1,7 @@
 -- The lists and the walk in a row in which a trigger was moved.
-use Rattle.std.proofs.Common.{◌≡◌, ◌≢◌, ℕ, ◌+◌, ◌*◌, ◌<◌, cond, nat_eq, List, Option, None, Some, length, refl, sym, ap, subst, ◌∙◌, arith}
+use Rattle.std.proofs.Common.{◌≡◌, ◌≢◌, ℕ, ◌+◌, ◌<◌, cond, nat_eq, List, Option, None, Some, length, refl, sym, ap, subst, ◌∙◌, arith}
 use Rattle.std.specs.Option.{option_map}
-use Rattle.mn_lists.specs.Circles.{chain, circles, Mutual, IsLinked, IsRun, IsWalk, skip}
+use Rattle.mn_lists.specs.Circles.{chain, circles, IsLinked, IsRun, IsWalk, skip}
 use Rattle.mn_lists.specs.Links.{AreLinks, Lines, lines_of, lists_of, walk_of}
 use Rattle.mn_lists.specs.Row.{HasNode, IsClosed, next_node, prev_node, joined, unlinked, inserted}
 use Rattle.mn_lists.specs.Standing.{EachOnOneList, moved_to, without}

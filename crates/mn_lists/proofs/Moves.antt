@@ -1,6 +1,6 @@
 -- A number that is taken out of its circle and put behind a head.
-use Rattle.std.proofs.Common.{◌≡◌, ◌≢◌, ℕ, ◌+◌, ◌≤◌, ◌<◌, Bool, true, false, not, cond, nat_eq, List, [], ◌∷◌, length, get_or, refl, sym, ap, subst, ◌∙◌, arith}
-use Rattle.std.specs.Prelude.{All, map, slice_set, sum_by}
+use Rattle.std.proofs.Common.{◌≡◌, ◌≢◌, ℕ, ◌+◌, ◌≤◌, ◌<◌, Bool, not, cond, nat_eq, List, [], ◌∷◌, length, get_or, refl, sym, ap, subst, ◌∙◌, arith}
+use Rattle.std.specs.Prelude.{All, map, sum_by}
 use Rattle.std.proofs.lemmas.Bool.Decides.{nat_tests}
 use Rattle.std.proofs.lemmas.List.{get_or-map, get_or-set_other, get_or-set_same, length-map, length-set}
 use Rattle.std.proofs.lemmas.List.Elements.{All-cons, All-filter, All-get_or, All-head, All-map, All-set, All-tail, All-weaker}
@@ -26,7 +26,7 @@ follow_moved f F n t moves (x ∷ xs) s e far only is =
     let P : Bool → Type 0 = λ b. Follow F (skip f t s) (cond (not b) (x ∷ without t xs) (without t xs)) e in
     by_same x t
     (λ same test. subst P (sym test) (let there : skip f t (f x) ≡ skip f t s = ap (λ (z : ℕ). skip f t (f z)) same ∙ skip_twice f t ∙ sym (skip_same f t s (is.0 ∙ same)) in
-        subst (λ (z : ℕ). Follow F z (without t xs) e) there rest))
+    subst (λ (z : ℕ). Follow F z (without t xs) e) there rest))
     (λ other test. subst P (sym test) (skip_other f t s (λ z. other (sym is.0 ∙ z)) ∙ is.0, subst (λ (z : ℕ). Follow F z (without t xs) e) (sym (moves x (All-head (λ x. x < n) x xs only) other)) rest))
 
 -- F is f with t taken out of its circle and put behind h
@@ -92,9 +92,9 @@ module _ (f g F G : ℕ → ℕ) (n t l : ℕ) (lists : List (List ℕ)) (here :
       let run = moved_runs (get_or lists i []) (f (n + i)) (n + i) (omega arith) (All-get_or (All (λ x. x < n)) lists i [] h linked.each.only) (linked.loops i h) in
       by_same i l
       (λ same _. let this : Follow F (F (n + l)) (t ∷ without t (get_or lists l [])) (n + l) = (moves.head, subst (λ (z : ℕ). Follow F z (without t (get_or lists l [])) (n + l)) (sym moves.node) (subst (λ (k : ℕ). Follow F (skip f t (f (n + k))) (without t (get_or lists k [])) (n + k)) same run)) in
-          subst (λ (k : ℕ). Follow F (F (n + k)) (get_or (moved_to t l lists) k []) (n + k)) (sym same) (subst (λ (xs : List ℕ). Follow F (F (n + l)) xs (n + l)) (sym (get_or-moved_to_here t l lists inside)) this))
+      subst (λ (k : ℕ). Follow F (F (n + k)) (get_or (moved_to t l lists) k []) (n + k)) (sym same) (subst (λ (xs : List ℕ). Follow F (F (n + l)) xs (n + l)) (sym (get_or-moved_to_here t l lists inside)) this))
       (λ other _. subst (λ (xs : List ℕ). Follow F (F (n + i)) xs (n + i)) (sym (get_or-moved_to_other t l i lists h other))
-          (subst (λ (z : ℕ). Follow F z (without t (get_or lists i [])) (n + i)) (sym (moves.others (n + i) (omega arith) (omega arith) (omega arith))) run))
+      (subst (λ (z : ℕ). Follow F z (without t (get_or lists i [])) (n + i)) (sym (moves.others (n + i) (omega arith) (omega arith) (omega arith))) run))
 
   pub linked_moved : IsLinked F G n (moved_to t l lists)
   linked_moved = record {

@@ -1,11 +1,10 @@
 -- A queue from its first number on, and what `push` and `pop` make of it.
-use Rattle.std.proofs.Common.{◌≡◌, ◌≢◌, ℕ, zero, suc, ◌+◌, ◌-◌, ◌^◌, ◌≤◌, ◌<◌, Bool, true, false, cond, nat_eq, List, [], ◌∷◌, ◌++◌, length, get_or, set, refl, sym, ap, subst, ◌∙◌, arith}
+use Rattle.std.proofs.Common.{◌≡◌, ◌≢◌, ℕ, suc, ◌+◌, ◌-◌, ◌^◌, ◌≤◌, ◌<◌, Bool, true, false, cond, nat_eq, List, [], ◌∷◌, ◌++◌, length, get_or, set, refl, sym, ap, subst, ◌∙◌, arith}
 use Rattle.std.specs.Prelude.{All, drop, replicate}
-use Rattle.std.proofs.lemmas.Bool.Decides.{nat_tests}
 use Rattle.std.proofs.lemmas.List.{get_or-append-add, get_or-replicate, get_or-set_other, get_or-set_same, length-append, length-replicate, length-set}
 use Rattle.std.proofs.lemmas.List.Elements.{All-cons, All-get_or, All-head, All-nil, All-push, All-tail, All-weaker}
 use Rattle.std.proofs.lemmas.List.Sums.{sum_by-append}
-use Rattle.mn_lists.specs.Circles.{chain, Follow}
+use Rattle.mn_lists.specs.Circles.{Follow}
 use Rattle.mn_lists.specs.Queue.{IsQueue, Line, follower, items_of, line_of}
 use Rattle.mn_lists.specs.Standing.{count_of, pushed}
 use Rattle.mn_lists.proofs.Cases.{by_same, cond_same, cond_other}
@@ -86,8 +85,8 @@ module _ (row : List ℕ) (n first last_one : ℕ) (xs : List ℕ) (q : IsQueue 
         follows = (refl, ap (λ (w : ℕ). w - 1) written ∙ omega arith);
         only = All-cons (λ x. x < n) c [] here (All-nil (λ x. x < n));
         marks = λ k h. by_same c k
-          (λ same test. count_of-cons_same k c [] test ∙ sym (cond_other (get_or (set row c (n + 1)) k 0) 0 0 1 (λ e. let z : get_or (set row c (n + 1)) c 0 ≡ 0 = ap (λ (j : ℕ). get_or (set row c (n + 1)) j 0) same ∙ e in omega (arith, written, z))))
-          (λ other test. count_of-cons_other k c [] test ∙ ap (count_of k) (sym none) ∙ q.marks k h ∙ ap (λ (w : ℕ). cond (nat_eq w 0) 0 1) (sym (get_or-set_other row c k (n + 1) 0 (λ e. other (sym e)))));
+            (λ same test. count_of-cons_same k c [] test ∙ sym (cond_other (get_or (set row c (n + 1)) k 0) 0 0 1 (λ e. let z : get_or (set row c (n + 1)) c 0 ≡ 0 = ap (λ (j : ℕ). get_or (set row c (n + 1)) j 0) same ∙ e in omega (arith, written, z))))
+            (λ other test. count_of-cons_other k c [] test ∙ ap (count_of k) (sym none) ∙ q.marks k h ∙ ap (λ (w : ℕ). cond (nat_eq w 0) 0 1) (sym (get_or-set_other row c k (n + 1) 0 (λ e. other (sym e)))));
         ends = refl;
       } in
       subst (λ (ys : List ℕ). IsQueue (set row c (n + 1)) n c c (ys ++ c ∷ [])) (sym none) this
@@ -117,13 +116,13 @@ pushed_behind row n first last_one (x ∷ xs) q c here free some =
       follows = follow_pushed (follower row) (follower row₂) n c last_one leads (λ y far other. ap (λ (w : ℕ). w - 1) (at_other y far other)) (ap (λ (w : ℕ). w - 1) at_last ∙ omega arith) (ap (λ (w : ℕ). w - 1) at_new ∙ omega arith) x xs first q.only none ends q.follows;
       only = All-push (λ y. y < n) (x ∷ xs) c q.only here;
       marks = λ k h. by_same c k
-        (λ same test. let new : count_of k ((x ∷ xs) ++ c ∷ []) ≡ 1 = omega (arith, more k, count_of-cons_same k c [] test, ap (λ (j : ℕ). count_of j (x ∷ xs)) (sym same), absent row n first last_one (x ∷ xs) q c here free) in
-            new ∙ sym (cond_other (get_or row₂ k 0) 0 0 1 (λ e. let z : get_or row₂ c 0 ≡ 0 = ap (λ (j : ℕ). get_or row₂ j 0) same ∙ e in omega (arith, at_new, z))))
-        (λ other test. let old : count_of k ((x ∷ xs) ++ c ∷ []) ≡ count_of k (x ∷ xs) = omega (arith, more k, count_of-cons_other k c [] test) in
-            old ∙ by_same k last_one
-            (λ same _. let word : get_or row k 0 ≢ 0 = λ e. let z : get_or row last_one 0 ≡ 0 = ap (λ (j : ℕ). get_or row j 0) (sym same) ∙ e in omega (arith, leads, z) in
-                present row n first last_one (x ∷ xs) q k h word ∙ sym (cond_other (get_or row₂ k 0) 0 0 1 (λ e. let z : get_or row₂ last_one 0 ≡ 0 = ap (λ (j : ℕ). get_or row₂ j 0) (sym same) ∙ e in omega (arith, at_last, z))))
-            (λ far _. q.marks k h ∙ ap (λ (w : ℕ). cond (nat_eq w 0) 0 1) (sym (at_other k far (λ e. other (sym e))))));
+          (λ same test. let new : count_of k ((x ∷ xs) ++ c ∷ []) ≡ 1 = omega (arith, more k, count_of-cons_same k c [] test, ap (λ (j : ℕ). count_of j (x ∷ xs)) (sym same), absent row n first last_one (x ∷ xs) q c here free) in
+          new ∙ sym (cond_other (get_or row₂ k 0) 0 0 1 (λ e. let z : get_or row₂ c 0 ≡ 0 = ap (λ (j : ℕ). get_or row₂ j 0) same ∙ e in omega (arith, at_new, z))))
+          (λ other test. let old : count_of k ((x ∷ xs) ++ c ∷ []) ≡ count_of k (x ∷ xs) = omega (arith, more k, count_of-cons_other k c [] test) in
+          old ∙ by_same k last_one
+          (λ same _. let word : get_or row k 0 ≢ 0 = λ e. let z : get_or row last_one 0 ≡ 0 = ap (λ (j : ℕ). get_or row j 0) (sym same) ∙ e in omega (arith, leads, z) in
+          present row n first last_one (x ∷ xs) q k h word ∙ sym (cond_other (get_or row₂ k 0) 0 0 1 (λ e. let z : get_or row₂ last_one 0 ≡ 0 = ap (λ (j : ℕ). get_or row₂ j 0) (sym same) ∙ e in omega (arith, at_last, z))))
+          (λ far _. q.marks k h ∙ ap (λ (w : ℕ). cond (nat_eq w 0) 0 1) (sym (at_other k far (λ e. other (sym e))))));
       ends = ap (λ (i : ℕ). get_or ((x ∷ xs) ++ c ∷ []) i c) end_at ∙ get_or-append-add (x ∷ xs) (c ∷ []) 0 c;
     }
 
@@ -159,8 +158,8 @@ pops row n first last_one (x ∷ xs) q some =
         follows = follow_same (follower row) (follower row') xs (follower row x) n (All-weaker (λ y. y ≢ x) (λ y. follower row' y ≡ follower row y) (λ y far. ap (λ (w : ℕ). w - 1) (get_or-set_other row x y 0 0 far)) xs (none_stands x xs gone)) q.follows.1;
         only = All-tail (λ y. y < n) x xs q.only;
         marks = λ k h. by_same x k
-          (λ same _. ap (λ (j : ℕ). count_of j xs) (sym same) ∙ gone ∙ sym (cond_same (get_or row' k 0) 0 0 1 (ap (λ (j : ℕ). get_or row' j 0) (sym same) ∙ get_or-set_same row x 0 0 (omega (arith, q.nodes)))))
-          (λ other test. sym (count_of-cons_other k x xs test) ∙ q.marks k h ∙ ap (λ (w : ℕ). cond (nat_eq w 0) 0 1) (sym (get_or-set_other row x k 0 0 (λ e. other (sym e)))));
+            (λ same _. ap (λ (j : ℕ). count_of j xs) (sym same) ∙ gone ∙ sym (cond_same (get_or row' k 0) 0 0 1 (ap (λ (j : ℕ). get_or row' j 0) (sym same) ∙ get_or-set_same row x 0 0 (omega (arith, q.nodes)))))
+            (λ other test. sym (count_of-cons_other k x xs test) ∙ q.marks k h ∙ ap (λ (w : ℕ). cond (nat_eq w 0) 0 1) (sym (get_or-set_other row x k 0 0 (λ e. other (sym e)))));
         ends = ends_tail x xs last_one q.ends;
       };
     })

@@ -1,5 +1,5 @@
 -- A move keeps that the next and the previous nodes undo each other.
-use Rattle.std.proofs.Common.{◌≡◌, ◌≢◌, ℕ, ◌<◌, cond, nat_eq, refl, sym, ap, subst, ◌∙◌, arith}
+use Rattle.std.proofs.Common.{◌≡◌, ◌≢◌, ℕ, ◌<◌, cond, nat_eq, refl, sym, ap, subst, ◌∙◌}
 use Rattle.mn_lists.specs.Circles.{Mutual, skip}
 use Rattle.mn_lists.proofs.Cases.{by_same, cond_same, cond_other}
 use Rattle.mn_lists.proofs.Moves.{skip_same, skip_other, Moves}
@@ -90,7 +90,7 @@ module _ (f g : ℕ → ℕ) (m t h : ℕ) (M : Mutual f g m) (here : t < m) (th
         (λ away _. cond_other (F k) t h _ (λ e. away (same_now k h below there (e ∙ sym moves.head))) ∙
         by_same (f k) t (λ same _. cond_same (F k) (f t) (g t) (g (F k)) (moves.others k below other away ∙ skip_same f t (f k) same) ∙ ap g (sym same) ∙ M.back k below)
         (λ apart _. let stays : F k ≡ f k = moves.others k below other away ∙ skip_other f t (f k) apart in
-            cond_other (F k) (f t) (g t) (g (F k)) (λ e. other (same_next k t below here (sym stays ∙ e))) ∙ ap g stays ∙ M.back k below)))
+        cond_other (F k) (f t) (g t) (g (F k)) (λ e. other (same_next k t below here (sym stays ∙ e))) ∙ ap g stays ∙ M.back k below)))
 
     prev_is : (k : ℕ) → k < m → G k ≡ prev_now k
     prev_is k below =

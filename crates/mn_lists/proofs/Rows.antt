@@ -1,5 +1,5 @@
 -- The nodes of a row in which one node was made to follow another.
-use Rattle.std.proofs.Common.{◌≡◌, ◌≢◌, ℕ, ◌+◌, ◌*◌, ◌<◌, cond, nat_eq, List, length, get_or, set, refl, sym, ap, subst, ◌∙◌, arith}
+use Rattle.std.proofs.Common.{◌≡◌, ℕ, ◌+◌, ◌*◌, cond, nat_eq, List, length, get_or, set, sym, subst, ◌∙◌, arith}
 use Rattle.std.proofs.lemmas.List.{get_or-set_other, get_or-set_same, length-set}
 use Rattle.mn_lists.specs.Row.{HasNode, next_node, prev_node, joined}
 use Rattle.mn_lists.proofs.Cases.{by_same, cond_same, cond_other}

@@ -1,6 +1,6 @@
 -- The nodes as they stand at the beginning.
-use Rattle.std.proofs.Common.{◌≡◌, ◌≢◌, ℕ, zero, suc, ◌+◌, ◌-◌, ◌*◌, ◌^◌, ◌≤◌, ◌<◌, Bool, true, false, cond, nat_eq, nat_lt, List, [], ◌∷◌, None, Some, length, get_or, refl, sym, ap, subst, ◌∙◌, arith}
-use Rattle.std.specs.Prelude.{All, drop, replicate, sum_by}
+use Rattle.std.proofs.Common.{◌≡◌, ◌≢◌, ℕ, zero, suc, ◌+◌, ◌-◌, ◌*◌, ◌^◌, ◌≤◌, ◌<◌, cond, nat_eq, nat_lt, List, [], None, length, get_or, refl, sym, ap, subst, ◌∙◌, arith}
+use Rattle.std.specs.Prelude.{All, drop, replicate}
 use Rattle.std.specs.List.{range_with_len, refill}
 use Rattle.std.proofs.lemmas.Bool.Decides.{nat_tests}
 use Rattle.std.proofs.lemmas.List.{get_or-replicate, length-replicate, take_at}
@@ -15,7 +15,7 @@ use Rattle.mn_lists.specs.Standing.{EachOnOneList, all_on_first, count_of}
 use Rattle.mn_lists.proofs.Cases.{by_same, cond_same, cond_other}
 use Rattle.mn_lists.proofs.Chains.{circles_is}
 use Rattle.mn_lists.proofs.Counts.{count_of-cons_other, count_of-cons_same}
-use Rattle.mn_lists.proofs.Rows.{length-joined, next-joined, prev-joined}
+use Rattle.mn_lists.proofs.Rows.{next-joined, prev-joined}
 
 -- ---- the permutation
 first_next_less : (n k : ℕ) → k < n → first_next n k ≡ k + 1
@@ -53,10 +53,10 @@ pub record LinkedBelow (row : List ℕ) (n i : ℕ) : Type 0 where
 pub linked_more : (row : List ℕ) (n i : ℕ) → HasNode row i → HasNode row (first_next n i) → LinkedBelow row n i → LinkedBelow (joined row i (first_next n i)) n (i + 1)
 linked_more row n i here there so_far = record {
   nexts = λ k h. next-joined row i (first_next n i) k here ∙
-    by_same k i (λ same _. cond_same k i _ _ same ∙ ap (first_next n) (sym same)) (λ other _. cond_other k i _ _ other ∙ so_far.nexts k (omega arith));
+      by_same k i (λ same _. cond_same k i _ _ same ∙ ap (first_next n) (sym same)) (λ other _. cond_other k i _ _ other ∙ so_far.nexts k (omega arith));
   prevs = λ k h. prev-joined row i (first_next n i) (first_next n k) there ∙
-    by_same (first_next n k) (first_next n i) (λ same _. cond_same (first_next n k) (first_next n i) _ _ same ∙ sym (first_next-one n k i same))
-    (λ other _. cond_other (first_next n k) (first_next n i) _ _ other ∙ so_far.prevs k (let apart : k ≢ i = λ e. other (ap (first_next n) e) in omega arith));
+      by_same (first_next n k) (first_next n i) (λ same _. cond_same (first_next n k) (first_next n i) _ _ same ∙ sym (first_next-one n k i same))
+      (λ other _. cond_other (first_next n k) (first_next n i) _ _ other ∙ so_far.prevs k (let apart : k ≢ i = λ e. other (ap (first_next n) e) in omega arith));
 }
 
 pub linked_none : (row : List ℕ) (n : ℕ) → LinkedBelow row n 0
@@ -85,7 +85,7 @@ each_first : (n heads : ℕ) → EachOnOneList n (all_on_first n heads)
 each_first n heads = record {
   once = λ t h. sum_by-cons (count_of t) (range_with_len 0 n) (replicate (heads - 1) []) ∙ omega (arith, count_of-range t n 0 (omega arith) (omega arith), sum_by-replicate (count_of t) (heads - 1) []);
   only = All-cons (All (λ t. t < n)) (range_with_len 0 n) (replicate (heads - 1) []) (All-from_get_or (λ t. t < n) (range_with_len 0 n) 0 (λ i h. omega (arith, length-range_with_len 0 n, get_or-range_with_len 0 n i 0 (omega (arith, length-range_with_len 0 n)))))
-    (All-replicate (All (λ t. t < n)) (heads - 1) [] (All-nil (λ t. t < n)));
+      (All-replicate (All (λ t. t < n)) (heads - 1) [] (All-nil (λ t. t < n)));
 }
 
 module _ (row : List ℕ) (n heads : ℕ) (nodes : length row ≡ 2 * (n + heads)) (some : 0 < heads) (fits : n + heads < 2 ^ 60) (starts : StandsAtFirst row n) where

@@ -1,5 +1,5 @@
 -- What the lists and the walk are, seen from outside, and how they lie in a row of words.
-use Rattle.std.specs.Prelude.{◌≡◌, ℕ, ◌+◌, ◌*◌, ◌≤◌, ◌<◌, ◌^◌, List, Option, length}
+use Rattle.std.specs.Prelude.{◌≡◌, ℕ, ◌+◌, ◌*◌, ◌<◌, ◌^◌, List, Option, length}
 use Rattle.std.specs.Option.{option_map}
 use Rattle.mn_lists.specs.Circles.{chain, circles, IsLinked, IsWalk}
 use Rattle.mn_lists.specs.Row.{next_node, prev_node}

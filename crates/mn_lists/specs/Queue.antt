@@ -1,5 +1,5 @@
 -- What a queue is, seen from outside, and how it lies in a row of words.
-use Rattle.std.specs.Prelude.{◌≡◌, ℕ, ◌+◌, ◌-◌, ◌<◌, ◌^◌, ◌==◌, List, All, if◌then◌else◌, length, slice_index, slice_index_or}
+use Rattle.std.specs.Prelude.{◌≡◌, ℕ, ◌-◌, ◌<◌, ◌^◌, ◌==◌, List, All, if◌then◌else◌, length, slice_index, slice_index_or}
 use Rattle.mn_lists.specs.Circles.{chain, Follow}
 use Rattle.mn_lists.specs.Standing.{count_of}
 

@@ -1,7 +1,6 @@
 -- What stands on the lists and in the queues, and what each call makes of it.
-use Rattle.std.specs.Prelude.{◌≡◌, ℕ, ◌-◌, ◌<◌, ◌==◌, not, List, [], ◌∷◌, ◌++◌, Option, None, Some, All, count_by, filter, if◌then◌else◌, map, replicate, slice_index_or, slice_set, sum_by, unwrap_or, drop}
+use Rattle.std.specs.Prelude.{◌≡◌, ℕ, ◌-◌, ◌<◌, ◌==◌, not, List, [], ◌∷◌, ◌++◌, Option, None, All, count_by, filter, if◌then◌else◌, map, replicate, slice_index_or, slice_set, sum_by, unwrap_or}
 use Rattle.std.specs.List.{range_with_len}
-use Rattle.std.specs.Option.{option_map}
 
 -- the triggers on each list, what is still ahead of the walk that is under way, and the two queues
 pub record Standing : Type 0 where

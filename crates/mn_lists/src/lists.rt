@@ -34,6 +34,7 @@ impl Lists {
     pub fn new(alloc: Global, lists: u64, triggers: u32, cons: u32) -> Result<Lists, NoMemory>
         requires { 0 < lists }
         ensures made { IfOk result (λ l. l ≡ as_made lists triggers cons) }
+        ensures count { IfOk result (λ l. length l.lists ≡ lists) }
         ensures one_list { IfOk result (λ l. EachOnOneList l.triggers l.lists) }
     {
         Ok(Lists {
@@ -126,5 +127,76 @@ impl Lists {
     {
         self.events.clear();
         self.constraints.clear();
+    }
+}
+
+#[cfg(test)]
+mod tests {
+    use super::*;
+    use std::test::Fail;
+
+    // Where memory was refused nothing is left behind, so the lists are made once more.
+    fn made(alloc: Global) -> Result<Lists, NoMemory>
+        ensures made { IfOk result (λ l. l ≡ as_made 3 4 2) }
+    {
+        match Lists::new(alloc, 3, 4, 2) {
+            Ok(lists) => Ok(lists),
+            Err(NoMemory) => Lists::new(alloc, 3, 4, 2),
+        }
+    }
+
+    #[test]
+    fn walks_past_what_moves(rt: HostRuntime) -> Result<(), Fail> {
+        let mut lists = made(rt.alloc())?;
+        lists.move_to(2, 1);
+        lists.move_to(0, 1);
+        lists.walk_open(1);
+        assert_eq!(rt; lists.walk_next(), Some(0));
+        lists.move_to(0, 1);
+        lists.move_to(3, 1);
+        assert_eq!(rt; lists.walk_next(), Some(2));
+        assert_eq!(rt; lists.walk_next(), None);
+        lists.walk_close();
+        lists.walk_open(1);
+        assert_eq!(rt; lists.walk_next(), Some(3));
+        assert_eq!(rt; lists.walk_next(), Some(0));
+        assert_eq!(rt; lists.walk_next(), Some(2));
+        assert_eq!(rt; lists.walk_next(), None);
+        Ok(())
+    }
+
+    #[test]
+    fn starts_on_the_first_list(rt: HostRuntime) -> Result<(), Fail> {
+        let mut lists = made(rt.alloc())?;
+        lists.walk_open(0);
+        lists.move_to(1, 2);
+        assert_eq!(rt; lists.walk_next(), Some(0));
+        assert_eq!(rt; lists.walk_next(), Some(2));
+        assert_eq!(rt; lists.walk_next(), Some(3));
+        assert_eq!(rt; lists.walk_next(), None);
+        Ok(())
+    }
+
+    #[test]
+    fn queues_once_in_order(rt: HostRuntime) -> Result<(), Fail> {
+        let mut lists = made(rt.alloc())?;
+        lists.push_event(2);
+        lists.push_event(0);
+        lists.push_event(2);
+        assert_eq!(rt; lists.pop_event(), Some(2));
+        lists.push_event(2);
+        assert_eq!(rt; lists.pop_event(), Some(0));
+        assert_eq!(rt; lists.pop_event(), Some(2));
+        assert_eq!(rt; lists.pop_event(), None);
+        lists.push_con(1);
+        lists.push_con(0);
+        lists.push_con(1);
+        assert_eq!(rt; lists.pop_con(), Some(1));
+        lists.push_event(1);
+        lists.clear();
+        assert_eq!(rt; (lists.pop_con(), lists.pop_event()), (None, None));
+        lists.push_con(0);
+        assert_eq!(rt; lists.pop_con(), Some(0));
+        Ok(())
     }
 }

@@ -1,6 +1,6 @@
 -- The facts of `is_moved`, from what the calls ensure.
-use Rattle.std.proofs.Common.{◌+◌, arith}
-use Rattle.mn_lists.proofs.MovedLinks.{IsMoved, all_closed, has_head, head_of, is_moved}
+use Rattle.std.proofs.Common.{arith}
+use Rattle.mn_lists.proofs.MovedLinks.{IsMoved, all_closed, head_of, is_moved}
 use Rattle.mn_lists.proofs.links.Links.move_to.Goals as goal
 
 pub overflow_add-head : goal.overflow_add-head

@@ -1,8 +1,7 @@
 -- The facts of `opens`, from what the calls ensure.
-use Rattle.std.proofs.Common.{◌+◌, arith}
-use Rattle.mn_lists.proofs.MovedLinks.{has_head, head_of}
+use Rattle.std.proofs.Common.{arith}
+use Rattle.mn_lists.proofs.MovedLinks.{head_of}
 use Rattle.mn_lists.proofs.Walks.{Opens, opens}
-use Rattle.mn_lists.specs.Row.{HasNode}
 use Rattle.mn_lists.proofs.links.Links.walk_open.Goals as goal
 
 pub overflow_add-head : goal.overflow_add-head
