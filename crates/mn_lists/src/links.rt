@@ -117,10 +117,9 @@ fn passed(row: &[u64], cursor: Option<usize>, node: usize) -> Option<usize>
     requires { HasNode row.now node }
     ensures { result ≡ option_map (skip (next_node row.now) node) cursor }
 {
-    if cursor == Some(node) {
-        Some(next(row, node))
-    } else {
-        cursor
+    match cursor {
+        Some(at) if at == node => Some(next(row, node)),
+        other => other,
     }
 }
 
