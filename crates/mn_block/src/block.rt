@@ -1,5 +1,5 @@
-// The words in use.
-ghost use Rattle.std.specs.Prelude.{◌≡◌, ◌+◌, ◌-◌, ◌^◌, ◌<◌, ◌≤◌, [], ◌∷◌, ◌++◌, length, take, replicate, slice_index, slice_index_or, slice_set, is_ok, IfOk, All, nat_lt, if◌then◌else◌};
+// The block: the words in use, and spare room behind them.
+ghost use Rattle.std.specs.Prelude.{◌≡◌, ℕ, ◌+◌, ◌-◌, ◌^◌, ◌<◌, ◌≤◌, [], ◌∷◌, ◌++◌, length, take, replicate, slice_index, slice_index_or, slice_set, is_ok, IfOk, All, nat_lt, if◌then◌else◌};
 
 use crate::stack::Stack;
 use crate::words::{MOST_WORDS, Words};
@@ -67,6 +67,7 @@ impl Block {
     pub fn extend(&mut self, n: usize) -> Result<Place, NoMemory>
         ensures place { IfOk result (λ p. p.first ≡ length self.old) }
         ensures words { self.new ≡ (if is_ok result then self.old ++ replicate n 0 else self.old) }
+        ensures kept { (k : ℕ) → k < length self.old → slice_index self.new k ≡ slice_index self.old k }
     {
         let first = self.len;
         if self.words.as_slice().len() - first < n {

@@ -6,5 +6,6 @@ pub mod Moves
 pub mod Queues
 pub mod Relinked
 pub mod Rows
+pub mod Stands
 pub mod Starts
 pub mod Walks

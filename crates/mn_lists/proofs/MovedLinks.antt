@@ -2,7 +2,7 @@
 use Rattle.std.proofs.Common.{◌≡◌, ◌≢◌, ℕ, ◌+◌, ◌<◌, cond, nat_eq, List, Option, None, Some, length, refl, sym, ap, subst, ◌∙◌, arith}
 use Rattle.std.specs.Option.{option_map}
 use Rattle.mn_lists.specs.Circles.{chain, circles, IsLinked, IsRun, IsWalk, skip}
-use Rattle.mn_lists.specs.Links.{AreLinks, Lines, lines_of, lists_of, walk_of}
+use Rattle.mn_lists.specs.Links.{AreLinks, TriggerLists, trigger_lists, lists_of, walk_of}
 use Rattle.mn_lists.specs.Row.{HasNode, IsClosed, next_node, prev_node, joined, unlinked, inserted}
 use Rattle.mn_lists.specs.Standing.{EachOnOneList, moved_to, without}
 use Rattle.mn_lists.proofs.Cases.{by_same, cond_same, cond_other}
@@ -146,26 +146,26 @@ module _ (row : List ℕ) (n heads : ℕ) (cursor : Option ℕ) (links : AreLink
     }
 
 -- ---- what `move_to` leaves, from what its calls ensure
-pub record IsMoved (row : List ℕ) (n heads : ℕ) (cursor : Option ℕ) (t l : ℕ) (old : Lines) : Type 0 where
+pub record IsMoved (row : List ℕ) (n heads : ℕ) (cursor : Option ℕ) (t l : ℕ) (old : TriggerLists) : Type 0 where
   pub links : AreLinks row n heads cursor
   pub lists_are : lists_of row n heads ≡ moved_to t l old.lists
   pub walk_is : walk_of row n cursor ≡ option_map (without t) old.walk
   pub each : EachOnOneList n (lists_of row n heads)
 
 -- a list that is seen from outside has a head
-pub head_of : (row : List ℕ) (n heads : ℕ) (cursor : Option ℕ) (old : Lines) (l : ℕ) → AreLinks row n heads cursor → lines_of row n heads cursor ≡ old → l < length old.lists → l < heads
-head_of row n heads cursor old l links view h = omega (arith, count row n heads cursor links, ap (λ (v : Lines). length v.lists) view)
+pub head_of : (row : List ℕ) (n heads : ℕ) (cursor : Option ℕ) (old : TriggerLists) (l : ℕ) → AreLinks row n heads cursor → trigger_lists row n heads cursor ≡ old → l < length old.lists → l < heads
+head_of row n heads cursor old l links view h = omega (arith, count row n heads cursor links, ap (λ (v : TriggerLists). length v.lists) view)
 
-pub is_moved : (row : List ℕ) (n heads : ℕ) (cursor : Option ℕ) (old : Lines) (t l : ℕ) (row' read : List ℕ) (cursor' : Option ℕ) → AreLinks row n heads cursor → lines_of row n heads cursor ≡ old
+pub is_moved : (row : List ℕ) (n heads : ℕ) (cursor : Option ℕ) (old : TriggerLists) (t l : ℕ) (row' read : List ℕ) (cursor' : Option ℕ) → AreLinks row n heads cursor → trigger_lists row n heads cursor ≡ old
     → t < old.triggers → l < length old.lists → row' ≡ inserted (unlinked row t) (n + l) t → read ≡ row → cursor' ≡ option_map (skip (next_node read) t) cursor → IsMoved row' n heads cursor' t l old
 is_moved row n heads cursor old t l row' read cursor' links view in_triggers in_lists row_is read_is cursor_is =
-    let here : t < n = subst (λ (k : ℕ). t < k) (ap (λ (v : Lines). v.triggers) (sym view)) in_triggers in
+    let here : t < n = subst (λ (k : ℕ). t < k) (ap (λ (v : TriggerLists). v.triggers) (sym view)) in_triggers in
     let inside : l < heads = head_of row n heads cursor old l links view in_lists in
     let goes : cursor' ≡ option_map (skip (next_node row) t) cursor = cursor_is ∙ ap (λ (r : List ℕ). option_map (skip (next_node r) t) cursor) read_is in
     let P : List ℕ × Option ℕ → Type 0 = λ u. IsMoved u.0 n heads u.1 t l old in
     subst P (λ i. (sym row_is i, sym goes i)) (record {
       links = links_now row n heads cursor links t l here inside;
-      lists_are = lists_now row n heads cursor links t l here inside ∙ ap (λ (v : Lines). moved_to t l v.lists) view;
-      walk_is = walk_now row n heads cursor links t l here inside ∙ ap (λ (v : Lines). option_map (without t) v.walk) view;
+      lists_are = lists_now row n heads cursor links t l here inside ∙ ap (λ (v : TriggerLists). moved_to t l v.lists) view;
+      walk_is = walk_now row n heads cursor links t l here inside ∙ ap (λ (v : TriggerLists). option_map (without t) v.walk) view;
       each = each_now row n heads cursor links t l here inside;
     })

@@ -5,7 +5,7 @@ use Rattle.std.proofs.lemmas.List.{get_or-append-add, get_or-replicate, get_or-s
 use Rattle.std.proofs.lemmas.List.Elements.{All-cons, All-get_or, All-head, All-nil, All-push, All-tail, All-weaker}
 use Rattle.std.proofs.lemmas.List.Sums.{sum_by-append}
 use Rattle.mn_lists.specs.Circles.{Follow}
-use Rattle.mn_lists.specs.Queue.{IsQueue, Line, follower, items_of, line_of}
+use Rattle.mn_lists.specs.Queue.{IsQueue, NumberQueue, follower, items_of, number_queue}
 use Rattle.mn_lists.specs.Standing.{count_of, pushed}
 use Rattle.mn_lists.proofs.Cases.{by_same, cond_same, cond_other}
 use Rattle.mn_lists.proofs.Chains.{chain_is}
@@ -173,9 +173,9 @@ pub holds : (row : List ℕ) (n first last_one : ℕ) (xs : List ℕ) → IsQueu
 holds row n first last_one xs q =
     let e = items_are row n first last_one xs q in record { queue = subst (IsQueue row n first last_one) (sym e) q; items = e }
 
-module _ (row : List ℕ) (n first last_one : ℕ) (old : Line) (q : IsQueue row n first last_one (items_of row n first)) (view : line_of row n first ≡ old) where
+module _ (row : List ℕ) (n first last_one : ℕ) (old : NumberQueue) (q : IsQueue row n first last_one (items_of row n first)) (view : number_queue row n first ≡ old) where
   abbrev items_were : items_of row n first ≡ old.items
-  items_were = ap (λ (v : Line). v.items) view
+  items_were = ap (λ (v : NumberQueue). v.items) view
 
   pub left_by_pop : (row' : List ℕ) (word : ℕ) → first ≢ n → row' ≡ set row first 0 → word ≡ get_or row first 0 → Holds row' n (word - 1) last_one (drop 1 old.items)
   left_by_pop row' word some row_is word_is =

@@ -4,7 +4,7 @@ use Rattle.std.specs.Prelude.{drop, slice_get}
 use Rattle.std.proofs.lemmas.Bool.Decides.{nat_tests}
 use Rattle.std.proofs.lemmas.List.Elements.{All-tail}
 use Rattle.mn_lists.specs.Circles.{chain, Follow, IsRun, IsWalk}
-use Rattle.mn_lists.specs.Links.{AreLinks, Lines, lines_of, lists_of, walk_of}
+use Rattle.mn_lists.specs.Links.{AreLinks, TriggerLists, trigger_lists, lists_of, walk_of}
 use Rattle.mn_lists.specs.Row.{next_node, prev_node}
 use Rattle.mn_lists.specs.Standing.{ahead, count_of}
 use Rattle.mn_lists.proofs.Cases.{by_same}
@@ -76,10 +76,10 @@ module _ (row : List ℕ) (n heads : ℕ) (cursor : Option ℕ) (links : AreLink
     stepped = at_most (f s) (subst (IsRun f n (n + heads) (f s)) (sym others_are) step.run)
 
 -- ---- what the calls of a walk leave, from what their calls ensure
-module _ (row : List ℕ) (n heads : ℕ) (cursor : Option ℕ) (old : Lines) (links : AreLinks row n heads cursor) (view : lines_of row n heads cursor ≡ old) where
+module _ (row : List ℕ) (n heads : ℕ) (cursor : Option ℕ) (old : TriggerLists) (links : AreLinks row n heads cursor) (view : trigger_lists row n heads cursor ≡ old) where
   -- where the walk goes on at s, the walk that is seen from outside is the chain from s on
   ahead_was : (s : ℕ) → cursor ≡ Some s → ahead old.walk ≡ chain (next_node row) n n s
-  ahead_was s at = ap (λ (v : Lines). ahead v.walk) (sym view) ∙ ap (λ (c : Option ℕ). ahead (walk_of row n c)) at
+  ahead_was s at = ap (λ (v : TriggerLists). ahead v.walk) (sym view) ∙ ap (λ (c : Option ℕ). ahead (walk_of row n c)) at
 
   pub ended : (s : ℕ) → cursor ≡ Some s → n ≤ s → None ≡ slice_get (ahead old.walk) 0
   ended s at far = ap (λ (xs : List ℕ). slice_get xs 0) (sym (ahead_was s at ∙ chain_ends (next_node row) n n s far))
@@ -110,5 +110,5 @@ module _ (row : List ℕ) (n heads : ℕ) (cursor : Option ℕ) (old : Lines) (l
       let inside = head_of row n heads cursor old l links view h in
       subst (Opens l) (sym (next_is ∙ ap (λ (r : List ℕ). next_node r (n + l)) read_is)) (record {
         still = opened row n heads cursor links l inside;
-        all = ap (λ (xs : List ℕ). Some xs) (ahead_at_front row n heads cursor links l inside ∙ ap (λ (v : Lines). get_or v.lists l []) view);
+        all = ap (λ (xs : List ℕ). Some xs) (ahead_at_front row n heads cursor links l inside ∙ ap (λ (v : TriggerLists). get_or v.lists l []) view);
       })

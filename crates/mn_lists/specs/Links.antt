@@ -5,7 +5,7 @@ use Rattle.mn_lists.specs.Circles.{chain, circles, IsLinked, IsWalk}
 use Rattle.mn_lists.specs.Row.{next_node, prev_node}
 
 -- the triggers on each list, and what is ahead of the walk
-pub record Lines : Type 0 where
+pub record TriggerLists : Type 0 where
   pub triggers : ℕ
   pub lists : List (List ℕ)
   pub walk : Option (List ℕ)
@@ -19,8 +19,8 @@ abbrev pub walk_of : List ℕ → ℕ → Option ℕ → Option (List ℕ)
 walk_of row n cursor = option_map (chain (next_node row) n n) cursor
 
 -- both
-abbrev pub lines_of : List ℕ → ℕ → ℕ → Option ℕ → Lines
-lines_of row n heads cursor = record { triggers = n; lists = lists_of row n heads; walk = walk_of row n cursor }
+abbrev pub trigger_lists : List ℕ → ℕ → ℕ → Option ℕ → TriggerLists
+trigger_lists row n heads cursor = record { triggers = n; lists = lists_of row n heads; walk = walk_of row n cursor }
 
 -- the row has the nodes of n triggers and so many heads, in circles, and the walk goes on at one of them
 pub record AreLinks (row : List ℕ) (n heads : ℕ) (cursor : Option ℕ) : Type 0 where

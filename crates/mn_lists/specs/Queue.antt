@@ -4,7 +4,7 @@ use Rattle.mn_lists.specs.Circles.{chain, Follow}
 use Rattle.mn_lists.specs.Standing.{count_of}
 
 -- how many numbers there are, and those that stand in the queue, the first one first
-pub record Line : Type 0 where
+pub record NumberQueue : Type 0 where
   pub numbers : ℕ
   pub items : List ℕ
 
@@ -17,8 +17,8 @@ abbrev pub items_of : List ℕ → ℕ → ℕ → List ℕ
 items_of row n first = chain (follower row) n n first
 
 -- both
-abbrev pub line_of : List ℕ → ℕ → ℕ → Line
-line_of row n first = record { numbers = n; items = items_of row n first }
+abbrev pub number_queue : List ℕ → ℕ → ℕ → NumberQueue
+number_queue row n first = record { numbers = n; items = items_of row n first }
 
 -- xs stand in the row from the first to the last, and each number's word tells whether it is there
 pub record IsQueue (row : List ℕ) (n first last_one : ℕ) (xs : List ℕ) : Type 0 where

@@ -1,5 +1,5 @@
 -- What stands on the lists and in the queues, and what each call makes of it.
-use Rattle.std.specs.Prelude.{◌≡◌, ℕ, ◌-◌, ◌<◌, ◌==◌, not, List, [], ◌∷◌, ◌++◌, Option, None, All, count_by, filter, if◌then◌else◌, map, replicate, slice_index_or, slice_set, sum_by, unwrap_or}
+use Rattle.std.specs.Prelude.{◌≡◌, ◌≢◌, ℕ, ◌-◌, ◌<◌, ◌==◌, not, List, [], ◌∷◌, ◌++◌, Option, None, All, count_by, filter, if◌then◌else◌, map, replicate, slice_index_or, slice_set, sum_by, unwrap_or}
 use Rattle.std.specs.List.{range_with_len}
 
 -- the triggers on each list, what is still ahead of the walk that is under way, and the two queues
@@ -43,3 +43,11 @@ ahead walk = unwrap_or walk []
 -- a queue after n was pushed: a number that is there already stays where it is
 abbrev pub pushed : ℕ → List ℕ → List ℕ
 pushed n xs = if count_of n xs == 0 then xs ++ n ∷ [] else xs
+
+-- t stands on list l alone and isn't ahead of the walk, and each other trigger stands where it stood and is ahead where it was
+pub record MovesOnly (old new : Standing) (t l : ℕ) : Type 0 where
+  pub on_list : count_of t (slice_index_or new.lists l []) ≡ 1
+  pub on_no_other : (k : ℕ) → k ≢ l → count_of t (slice_index_or new.lists k []) ≡ 0
+  pub not_ahead : count_of t (ahead new.walk) ≡ 0
+  pub others_stay : (u k : ℕ) → u ≢ t → count_of u (slice_index_or new.lists k []) ≡ count_of u (slice_index_or old.lists k [])
+  pub others_ahead : (u : ℕ) → u ≢ t → count_of u (ahead new.walk) ≡ count_of u (ahead old.walk)

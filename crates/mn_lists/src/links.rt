@@ -22,11 +22,11 @@ pub(crate) struct Links {
 }
 
 impl Model for Links {
-    ghost use Rattle.mn_lists.specs.Links.{AreLinks, Lines, lines_of};
+    ghost use Rattle.mn_lists.specs.Links.{AreLinks, TriggerLists, trigger_lists};
 
-    ghost Value = { Lines };
+    ghost Value = { TriggerLists };
 
-    ghost view = { λ l. lines_of l.row l.triggers l.heads l.cursor };
+    ghost view = { λ l. trigger_lists l.row l.triggers l.heads l.cursor };
 
     ghost invariant = { λ l. AreLinks l.row l.triggers l.heads l.cursor };
 }

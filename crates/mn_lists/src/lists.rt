@@ -1,7 +1,7 @@
 // The lists of triggers and the two queues.
-ghost use Rattle.std.specs.Prelude.{◌≡◌, ◌<◌, [], None, Some, IsNone, IsSome, IfOk, IfSome, drop, length, slice_get, slice_index_or};
-ghost use Rattle.std.specs.Option.{option_map};
-ghost use Rattle.mn_lists.specs.Standing.{EachOnOneList, ahead, as_made, count_of, moved_to, pushed, without};
+ghost use Rattle.std.specs.Prelude.{◌≡◌, ◌<◌, [], ◌++◌, None, Some, IsNone, IsSome, IfOk, IfSome, drop, length, slice_get, slice_index_or};
+ghost use Rattle.std.specs.Option.{option_map, option_to_list};
+ghost use Rattle.mn_lists.specs.Standing.{EachOnOneList, MovesOnly, ahead, as_made, count_of, moved_to, pushed, without};
 
 use crate::links::Links;
 use crate::queue::Queue;
@@ -52,6 +52,7 @@ impl Lists {
         ensures moved { self.new ≡ record self.old { lists = moved_to t list self.old.lists; walk = option_map (without t) self.old.walk } }
         ensures count { length self.new.lists ≡ length self.old.lists }
         ensures one_list { EachOnOneList self.new.triggers self.new.lists }
+        ensures only { MovesOnly self.old self.new t list }
     {
         self.links.move_to(t as usize, list as usize);
     }
@@ -70,6 +71,7 @@ impl Lists {
         requires { IsSome self.old.walk }
         ensures given { result ≡ slice_get (ahead self.old.walk) 0 }
         ensures walk { self.new ≡ record self.old { walk = Some (drop 1 (ahead self.old.walk)) } }
+        ensures front { ahead self.old.walk ≡ option_to_list result ++ ahead self.new.walk }
         ensures trigger { IfSome result (λ t. t < self.old.triggers) }
         ensures once { IfSome result (λ t. count_of t (ahead self.new.walk) ≡ 0) }
     {
@@ -97,6 +99,7 @@ impl Lists {
     pub fn pop_event(&mut self) -> Option<u64>
         ensures given { result ≡ slice_get self.old.events 0 }
         ensures events { self.new ≡ record self.old { events = drop 1 self.old.events } }
+        ensures front { self.old.events ≡ option_to_list result ++ self.new.events }
         ensures list { IfSome result (λ l. l < length self.old.lists) }
     {
         let list = self.events.pop()?;
@@ -115,6 +118,7 @@ impl Lists {
     pub fn pop_con(&mut self) -> Option<u32>
         ensures given { result ≡ slice_get self.old.constraints 0 }
         ensures constraints { self.new ≡ record self.old { constraints = drop 1 self.old.constraints } }
+        ensures front { self.old.constraints ≡ option_to_list result ++ self.new.constraints }
         ensures con { IfSome result (λ c. c < self.old.cons) }
     {
         let con = self.constraints.pop()?;

@@ -18,11 +18,11 @@ pub(crate) struct Queue {
 }
 
 impl Model for Queue {
-    ghost use Rattle.mn_lists.specs.Queue.{IsQueue, Line, items_of, line_of};
+    ghost use Rattle.mn_lists.specs.Queue.{IsQueue, NumberQueue, items_of, number_queue};
 
-    ghost Value = { Line };
+    ghost Value = { NumberQueue };
 
-    ghost view = { λ q. line_of q.after q.numbers q.first };
+    ghost view = { λ q. number_queue q.after q.numbers q.first };
 
     ghost invariant = { λ q. IsQueue q.after q.numbers q.first q.last (items_of q.after q.numbers q.first) };
 }
