@@ -18,7 +18,7 @@ lists_of row n heads = circles (next_node row) n heads
 abbrev pub walk_of : List ℕ → ℕ → Option ℕ → Option (List ℕ)
 walk_of row n cursor = option_map (chain (next_node row) n n) cursor
 
--- both
+-- the lists and the walk that lie in the row
 abbrev pub trigger_lists : List ℕ → ℕ → ℕ → Option ℕ → TriggerLists
 trigger_lists row n heads cursor = record { triggers = n; lists = lists_of row n heads; walk = walk_of row n cursor }
 

@@ -16,7 +16,7 @@ follower row k = slice_index row k - 1
 abbrev pub items_of : List ℕ → ℕ → ℕ → List ℕ
 items_of row n first = chain (follower row) n n first
 
--- both
+-- the queue that lies in the row
 abbrev pub number_queue : List ℕ → ℕ → ℕ → NumberQueue
 number_queue row n first = record { numbers = n; items = items_of row n first }
 
