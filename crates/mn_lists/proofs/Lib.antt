@@ -1,0 +1,11 @@
+pub mod Cases
+pub mod Chains
+pub mod Counts
+pub mod MovedLinks
+pub mod Moves
+pub mod Queues
+pub mod Relinked
+pub mod Rows
+pub mod Stands
+pub mod Starts
+pub mod Walks
