@@ -4,6 +4,7 @@ use std::alloc::{AllocError, Global};
 use std::test::Fail;
 
 /// A file `m` of this text, an output that fails at these calls, and what is expected.
+#[derive(Drop)]
 struct Row {
     text: &'static [u8],
     fail: u64,
