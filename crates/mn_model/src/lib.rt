@@ -17,6 +17,8 @@ mod limits;
 mod name;
 mod refusal;
 mod sequence;
+#[cfg(test)]
+mod tests;
 mod variable;
 
 pub use constraint::{Con, Term};
