@@ -1,7 +1,7 @@
 // Worked examples, and that each call can succeed.
 ghost use Rattle.std.specs.Prelude.{◌≡◌, [], ◌∷◌, IfOk};
 
-use crate::{Dims, Domain, Text, is_name};
+use crate::{Con, Dims, Domain, Instance, Kind, Term, Text, VarId, is_name};
 use std::alloc::{AllocError, Global};
 use std::test::Fail;
 
@@ -62,4 +62,62 @@ fn two_by_three(alloc: Global) -> Result<Dims, AllocError>
     dims.push(2)?;
     dims.push(3)?;
     Ok(dims)
+}
+
+// A single variable `x` and a matrix `m`.
+fn problem(alloc: Global) -> Result<Instance, AllocError> {
+    let mut problem = Instance::empty(alloc)?;
+    let bit = Domain::stretch(alloc, 0, 1);
+    problem.declare(letter(alloc, 'x')?, Dims::new(alloc), Kind::Binary, bit)?;
+    if problem.find("m").is_some() {
+        return Instance::empty(alloc);
+    }
+    let sign = Domain::stretch(alloc, -1, 1);
+    problem.declare(
+        letter(alloc, 'm')?,
+        two_by_three(alloc)?,
+        Kind::Bounded,
+        sign,
+    )?;
+    Ok(problem)
+}
+
+#[test]
+fn a_place_is_found(rt: HostRuntime) -> Result<(), Fail> {
+    let problem = problem(rt.alloc())?;
+    let places: [(&str, &[u32], Option<u32>); 8] = [
+        ("m", &[1, 2], Some(6)),
+        ("m", &[0, 0], Some(1)),
+        ("m", &[2, 0], None),
+        ("m", &[0], None),
+        ("m", &[], None),
+        ("x", &[], Some(0)),
+        ("x", &[0], None),
+        ("y", &[], None),
+    ];
+    for (name, subs, want) in places {
+        assert_eq!(rt;
+            problem.var(name, subs).map(|v| v.number()),
+            want,
+            "{name}{subs:?}"
+        );
+    }
+    assert_eq!(rt; problem.var("m", &[0, 2]), Some(VarId::new(3)));
+    assert_eq!(rt; problem.vars(), 7);
+    assert_eq!(rt; problem.decls().len(), 2);
+    assert!(rt; problem.find("y").is_none());
+    Ok(())
+}
+
+#[test]
+fn a_constraint_is_added(rt: HostRuntime) -> Result<(), Fail> {
+    let mut problem = problem(rt.alloc())?;
+    let last = problem.var("m", &[1, 2]).ok_or("m")?;
+    assert!(rt; last.number() < problem.vars());
+    assert_eq!(rt; problem.kind(last), Kind::Bounded);
+    assert_eq!(rt; problem.domain(last).lo(), -1);
+    assert_eq!(rt; problem.cons().len(), 0);
+    problem.add(Con::Eq(Term::Var(last), Term::Const(1)))?;
+    assert_eq!(rt; problem.cons().len(), 1);
+    Ok(())
 }
