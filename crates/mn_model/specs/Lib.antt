@@ -1,7 +1,9 @@
 pub mod Decided
 pub mod Domain
 pub mod Index
+pub mod Laws
 pub mod Meaning
+pub mod Members
 pub mod Name
 pub mod Problem
 pub mod Solutions

@@ -12,15 +12,19 @@ mod constraint;
 mod dims;
 mod domain;
 mod instance;
+mod laws;
 mod limits;
 mod name;
 mod refusal;
 mod sequence;
+#[cfg(test)]
+mod tests;
 mod variable;
 
 pub use constraint::{Con, Term};
 pub use domain::Domain;
 pub use instance::{Decl, Instance};
+pub use laws::{assignments_are_all, lawful_domains_ascend, solutions_are_those_that_hold};
 pub use limits::{
     CELLS, CONSTRAINTS, NESTING, PLACES, SPAN, TEXT_BYTES, TRIGGERS, VALUE, VARIABLES,
 };

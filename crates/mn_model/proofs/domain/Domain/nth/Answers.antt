@@ -1,7 +1,6 @@
-use Rattle.std.proofs.Common.{◌≡◌, arith, ap, Some, sym, pos, ◌+ℤ◌, ◌∙◌, refl, to_z, of_z, w64}
+use Rattle.std.proofs.Common.{arith, ap, Some, ◌∙◌, refl}
 use Rattle.std.proofs.lemmas.Int.{ints}
-use Rattle.mn_model.specs.declared.limits.TheConstants.{VALUE}
-use Rattle.mn_model.proofs.Stretches.{StretchedTo, stretched_to}
+use Rattle.mn_model.proofs.Stretches.{stretched_to}
 use Rattle.mn_model.proofs.domain.Domain.nth.Goals as goal
 
 pub overflow_cast-result : goal.overflow_cast-result
