@@ -5,6 +5,7 @@
 use mn_driver::{Status, run};
 use mn_outside::{DiskFiles, StdSink};
 use std::env;
+use std::io::{self, ErrorKind};
 use std::process::ExitCode;
 
 fn main(rt: HostRuntime) -> ExitCode {
@@ -12,14 +13,15 @@ fn main(rt: HostRuntime) -> ExitCode {
     let mut files = DiskFiles::new(rt);
     let mut out = StdSink::new(rt);
     let status = match read_words(rt, &mut words) {
-        Ok(()) => run(rt.alloc(), &words, &mut files, &mut out).status,
-        Err(_) => Status::NoMemory,
+        // Words that are no text are none that the program knows, and `run` says so of none at all.
+        Err(fault) if fault.kind() == ErrorKind::OutOfMemory => Status::NoMemory,
+        _ => run(rt.alloc(), &words, &mut files, &mut out).status,
     };
     ExitCode::from(status.code())
 }
 
-/// The words after the program's name.
-fn read_words(rt: HostRuntime, words: &mut Vec<String>) -> std::io::Result<()> {
+/// The words after the program's name. One that isn't UTF-8 is an error, and then there are none.
+fn read_words(rt: HostRuntime, words: &mut Vec<String>) -> io::Result<()> {
     for word in env::args(&rt)?.skip(1) {
         words.push(word)?;
     }

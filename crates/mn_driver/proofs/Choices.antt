@@ -1,12 +1,12 @@
 -- The places of an enumeration lead through all choices, in order.
-use Rattle.std.proofs.Common.{◌≡◌, ℕ, zero, suc, ◌+◌, ◌<◌, ◌≤◌, Bool, true, false, nat_lt, cond, ℤ, pos, List, [], ◌∷◌, ◌++◌, length, map, drop, get_or, replicate, Option, Some, None, refl, sym, ap, subst, ◌∙◌, arith}
+use Rattle.std.proofs.Common.{◌≡◌, ℕ, zero, suc, ◌<◌, ◌≤◌, Bool, true, false, nat_lt, cond, ℤ, pos, List, [], ◌∷◌, ◌++◌, length, map, drop, get_or, replicate, Option, Some, None, refl, ap, ◌∙◌, arith}
 use Rattle.std.proofs.lemmas.Bool.Decides.{nat_tests}
 use Rattle.std.specs.List.{AllByRecursion, flat_map}
 use Rattle.mn_model.specs.Domain.{IsValue}
 use Rattle.mn_model.specs.Problem.{IsLawfulDecl, domains_of, size_of_dims, variables_of}
 use Rattle.mn_model.specs.Solutions.{choices}
 use Rattle.mn_model.specs.declared.instance.Decl.{Decl}
-use Rattle.mn_driver.specs.Ahead.{ArePlaces, first_places, values_at, choices_behind, choices_from, turned, carried, next_places}
+use Rattle.mn_driver.specs.Ahead.{ArePlaces, first_places, values_at, choices_behind, choices_from, carried, next_places}
 
 -- where there is a place in each domain, there is a first one
 pub first_are : (domains : List (List ℤ)) (places : List ℕ) → ArePlaces domains places → ArePlaces domains (first_places domains)

@@ -1,7 +1,6 @@
 -- From what a run has told by its status, the clauses of the run.
-use Rattle.std.proofs.Common.{◌≡◌, ℕ, ◌<◌, ◌≤◌, ◌⊎◌, ◌↔◌, List, [], ◌++◌, length, take, Option, IsSomeAnd, IfSome, Some, None, refl, sym, ap, subst, ◌∙◌, inl, inr, arith}
+use Rattle.std.proofs.Common.{◌≡◌, ℕ, ◌<◌, ◌⊎◌, ◌↔◌, List, [], length, take, Option, IsSomeAnd, IfSome, Some, None, refl, sym, ap, subst, ◌∙◌, inl, inr, arith}
 use Rattle.mn_model.specs.Problem.{Problem}
-use Rattle.mn_model.specs.Solutions.{listed}
 use Rattle.mn_model.specs.declared.limits.TheConstants.{TEXT_BYTES}
 use Rattle.mn_model.specs.declared.refusal.Refusal.{Refusal}
 use Rattle.mn_model.specs.declared.refusal.Refusal.TheVariants.{Limit, Unsupported}
@@ -10,12 +9,12 @@ use Rattle.mn_outside.specs.Content.{FileMap, file_at}
 use Rattle.mn_outside.specs.Faults.{HasRisen}
 use Rattle.mn_outside.specs.Reading.{line_ends}
 use Rattle.mn_reader.specs.Reads.{Reads}
-use Rattle.mn_driver.specs.Explains.{Solves, Refuses, Found, Lost, Misused, Explains}
+use Rattle.mn_driver.specs.Explains.{Solves, Refuses, Found, Lost, Explains}
 use Rattle.mn_driver.specs.Loads.{Unloads}
 use Rattle.mn_driver.specs.Owes.{Yields, IsModelStatus, StoppedAt}
-use Rattle.mn_driver.specs.Report.{capped, memory_line, read_line, report, too_long_line, unsupported_line, usage_line}
+use Rattle.mn_driver.specs.Report.{memory_line, read_line, too_long_line, unsupported_line, usage_line}
 use Rattle.mn_driver.specs.Runs.{AddsLine, Tells, HoldsModel, HoldsLongText, HoldsOtherText, IsAbsent, IsLong, IsOther, IsTheModel}
-use Rattle.mn_driver.specs.Written.{IsFrontOf, WritesReport, WritesSome}
+use Rattle.mn_driver.specs.Written.{WritesReport, WritesSome}
 use Rattle.mn_driver.specs.declared.load.Unloaded.{Unloaded}
 use Rattle.mn_driver.specs.declared.load.Unloaded.TheVariants as unloads
 use Rattle.mn_driver.specs.declared.status.Status.{Status}
@@ -350,6 +349,7 @@ module _ (told : Option FileMap) (name : Option (List ℕ)) (unread read : List 
       each : (model : List ℕ) → Found told name unread read old new before after model (Refused why) n ⊎ Lost told name unread read old new before after model (Refused why) n → (why ≡ Limit Text TEXT_BYTES) ⊎ (why ≡ Unsupported 0)
       each model (inl found) = absurd found.solves
       each model (inr lost) = elim (refused_as old new before after lost.why why lost.refuses) [ inl long ↦ inl long.0 | inr other ↦ inr other.0 ]
+
       one_of : (o : Option (List ℕ)) → IsSomeAnd o (λ model. Found told name unread read old new before after model (Refused why) n ⊎ Lost told name unread read old new before after model (Refused why) n) → (why ≡ Limit Text TEXT_BYTES) ⊎ (why ≡ Unsupported 0)
       one_of None h = absurd h
       one_of (Some model) h = each model h
@@ -361,9 +361,11 @@ module _ (told : Option FileMap) (name : Option (List ℕ)) (unread read : List 
       each : (model : List ℕ) → Found told name unread read old new before after model status n ⊎ Lost told name unread read old new before after model status n → ⊥
       each model (inl found) = subst (λ s. Solves old new before after found.problem s n) e found.solves
       each model (inr lost) = not_misused old new before after lost.why rule (subst (Refuses old new before after lost.why) e lost.refuses)
+
       none_of : (o : Option (List ℕ)) → IsSomeAnd o (λ model. Found told name unread read old new before after model status n ⊎ Lost told name unread read old new before after model status n) → ⊥
       none_of None h = h
       none_of (Some model) h = each model h
+
       by : Explains told name unread read old new before after status n → rule ≡ Unknown 0
       by (inl misused) = let is = misused.is in cc
       by (inr some) = absurd (none_of name some)

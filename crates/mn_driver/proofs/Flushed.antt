@@ -1,5 +1,5 @@
 -- What a run has told still holds once the output was flushed, or failed to be.
-use Rattle.std.proofs.Common.{◌≡◌, ℕ, ◌≤◌, ◌⊎◌, List, [], ◌++◌, Option, IsSomeAnd, Some, None, append-nil, refl, sym, ap, subst, ◌∙◌, inl, inr, arith, length}
+use Rattle.std.proofs.Common.{◌≡◌, ℕ, ◌≤◌, ◌⊎◌, List, [], Option, IsSomeAnd, Some, None, append-nil, refl, sym, ap, subst, ◌∙◌, inl, inr, length}
 use Rattle.mn_model.specs.Problem.{Problem}
 use Rattle.mn_model.specs.Solutions.{listed}
 use Rattle.mn_outside.specs.Content.{FileMap}
@@ -14,7 +14,6 @@ use Rattle.mn_driver.specs.declared.load.Unloaded.{Unloaded}
 use Rattle.mn_driver.specs.declared.load.Unloaded.TheVariants as unloads
 use Rattle.mn_driver.specs.declared.status.Status.{Status}
 use Rattle.mn_driver.specs.declared.status.Status.TheVariants.{Complete, Refused, Usage, ReadFault, WriteFault, NoMemory}
-use Rattle.mn_driver.specs.declared.status.Usage.TheVariants.{Unknown}
 use Rattle.mn_driver.proofs.Solving.{counted_all}
 
 -- the whole report is a report in part

@@ -1,10 +1,10 @@
 -- Lines that are written behind what a run has written.
-use Rattle.std.proofs.Common.{◌≡◌, ℕ, ◌≤◌, ◌⊎◌, List, [], ◌++◌, Option, Result, OnOk, OnErr, Ok, Err, take, refl, sym, ap, subst, ◌∙◌, inl, inr, arith, min, length}
+use Rattle.std.proofs.Common.{◌≡◌, ℕ, ◌≤◌, List, [], Option, Result, OnOk, OnErr, Ok, Err, take, ap, ◌∙◌, inl, inr, arith, length}
 use Rattle.mn_model.specs.Problem.{Problem}
 use Rattle.mn_model.specs.Solutions.{listed}
 use Rattle.mn_outside.specs.Content.{WritesPart, with_bytes}
 use Rattle.mn_outside.specs.Faults.{HasRisen}
-use Rattle.mn_outside.specs.Laws.{HasRisen-before, HasRisen-after, with_bytes-with_bytes}
+use Rattle.mn_outside.specs.Laws.{HasRisen-before, with_bytes-with_bytes}
 use Rattle.mn_driver.specs.Report.{capped, memory_line, report}
 use Rattle.mn_driver.specs.Runs.{AddsLine}
 use Rattle.mn_driver.specs.Written.{IsFrontOf, WritesSome}

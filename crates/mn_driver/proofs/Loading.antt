@@ -1,5 +1,5 @@
 -- What is known of the named file when its text was read, or wasn't.
-use Rattle.std.proofs.Common.{◌≡◌, ℕ, ◌<◌, ◌≤◌, ◌⊎◌, ◌↔◌, List, length, Option, Some, None, Err, Result, IsSomeAnd, IfSome, refl, sym, ap, subst, ◌∙◌, inl, inr, arith}
+use Rattle.std.proofs.Common.{◌≡◌, ℕ, ◌<◌, ◌≤◌, ◌⊎◌, List, length, Option, Some, None, IsSomeAnd, IfSome, refl, sym, ap, subst, ◌∙◌, inl, inr, arith}
 use Rattle.mn_model.specs.Problem.{Problem}
 use Rattle.mn_model.specs.declared.limits.TheConstants.{TEXT_BYTES}
 use Rattle.mn_model.specs.declared.refusal.Refusal.{Refusal}
@@ -12,7 +12,7 @@ use Rattle.mn_outside.specs.declared.helpers.FetchFault.{FetchFault}
 use Rattle.mn_outside.specs.declared.helpers.FetchFault.TheVariants as faults
 use Rattle.mn_reader.specs.Reads.{Reads}
 use Rattle.mn_driver.specs.Loads.{Unloads, unfetched, unread}
-use Rattle.mn_driver.specs.Runs.{Tells, HoldsModel, IsTheModel, HoldsOtherText, IsOther}
+use Rattle.mn_driver.specs.Runs.{Tells, HoldsModel, IsTheModel, HoldsOtherText}
 
 -- a named file that is told has the bytes that were fetched
 told_as : (files : FileMap) (name bytes : List ℕ) (found : Option (List ℕ)) → file_at files name ≡ found → IsSomeAnd found (λ file. bytes ≡ file) → Tells (Some files) name bytes

@@ -3,7 +3,6 @@ use Rattle.std.specs.Prelude.{◌≡◌, ℕ, ◌≤◌, ◌⊎◌, List, [], le
 use Rattle.mn_model.specs.Problem.{Problem}
 use Rattle.mn_model.specs.Solutions.{listed}
 use Rattle.mn_model.specs.declared.limits.TheConstants.{TEXT_BYTES}
-use Rattle.mn_model.specs.declared.refusal.Refusal.{Refusal}
 use Rattle.mn_model.specs.declared.refusal.Refusal.TheVariants.{Limit, Unsupported}
 use Rattle.mn_model.specs.declared.refusal.Which.TheVariants.{Text}
 use Rattle.mn_outside.specs.Content.{FileMap}

@@ -3,8 +3,8 @@ use Rattle.std.specs.Prelude.{◌≡◌, ℕ, ◌≤◌, ◌⊎◌, List, [], le
 use Rattle.mn_model.specs.Problem.{Problem}
 use Rattle.mn_model.specs.Solutions.{listed}
 use Rattle.mn_outside.specs.Content.{FileMap}
-use Rattle.mn_driver.specs.Report.{capped, memory_line, report}
-use Rattle.mn_driver.specs.Runs.{AddsLine, IsTheModel}
+use Rattle.mn_driver.specs.Report.{capped, report}
+use Rattle.mn_driver.specs.Runs.{IsTheModel}
 use Rattle.mn_driver.specs.Written.{IsFrontOf}
 use Rattle.mn_driver.specs.declared.status.Status.{Status}
 use Rattle.mn_driver.specs.declared.status.Status.TheVariants.{Complete, WriteFault, ReadFault, NoMemory}

@@ -1,5 +1,5 @@
 -- What a run owes, by what the words ask for and what the named file holds.
-use Rattle.std.specs.Prelude.{◌≡◌, ℕ, ◌<◌, ◌≤◌, ◌⊎◌, List, [], ◌++◌, length, Option, IfSome, Some, None}
+use Rattle.std.specs.Prelude.{◌≡◌, ℕ, ◌<◌, ◌≤◌, ◌⊎◌, List, ◌++◌, length, Option, IfSome, Some, None}
 use Rattle.mn_model.specs.Problem.{Problem}
 use Rattle.mn_model.specs.declared.limits.TheConstants.{TEXT_BYTES}
 use Rattle.mn_outside.specs.Content.{FileMap, file_at, with_bytes}

@@ -37,7 +37,11 @@ fn outcome(alloc: Global, row: &Row) -> Result<(u8, u64, bool), AllocError> {
     words.push(String::from_str(alloc, "-findallsols")?)?;
     words.push(String::from_str(alloc, "m")?)?;
     let ended = run(alloc, &words, &mut files, &mut out);
-    Ok((ended.status.code(), ended.solutions, out.written() == row.written))
+    Ok((
+        ended.status.code(),
+        ended.solutions,
+        out.written() == row.written,
+    ))
 }
 
 #[test]
@@ -124,7 +128,11 @@ fn writes_reports(rt: HostRuntime) -> Result<(), Fail> {
 }
 
 /// The number of the status that these words end with, where no file is there, and what is written.
-fn outcome_of_words(alloc: Global, texts: &[&str], written: &[u8]) -> Result<(u8, bool), AllocError> {
+fn outcome_of_words(
+    alloc: Global,
+    texts: &[&str],
+    written: &[u8],
+) -> Result<(u8, bool), AllocError> {
     let mut files = MemFiles::new(alloc, Vec::new(alloc));
     let mut out = MemSink::new(alloc, Vec::new(alloc));
     let mut words = Vec::new(alloc);
@@ -140,10 +148,25 @@ fn refuses_words(rt: HostRuntime) -> Result<(), Fail> {
     let usage = b"Usage: unknown, word 0\n".as_slice();
     let alloc = rt.alloc();
     assert_eq!(rt; outcome_of_words(alloc, &[], usage)?, (2, true));
-    assert_eq!(rt; outcome_of_words(alloc, &["-findallsols"], usage)?, (2, true));
-    assert_eq!(rt; outcome_of_words(alloc, &["-findallsols", "-wat"], usage)?, (2, true));
-    assert_eq!(rt; outcome_of_words(alloc, &["m", "-findallsols"], usage)?, (2, true));
-    assert_eq!(rt; outcome_of_words(alloc, &["-findallsols", "a", "b"], usage)?, (2, true));
-    assert_eq!(rt; outcome_of_words(alloc, &["-findallsols", "missing"], b"Fault: read\n")?, (3, true));
+    assert_eq!(rt;
+        outcome_of_words(alloc, &["-findallsols"], usage)?,
+        (2, true)
+    );
+    assert_eq!(rt;
+        outcome_of_words(alloc, &["-findallsols", "-wat"], usage)?,
+        (2, true)
+    );
+    assert_eq!(rt;
+        outcome_of_words(alloc, &["m", "-findallsols"], usage)?,
+        (2, true)
+    );
+    assert_eq!(rt;
+        outcome_of_words(alloc, &["-findallsols", "a", "b"], usage)?,
+        (2, true)
+    );
+    assert_eq!(rt;
+        outcome_of_words(alloc, &["-findallsols", "missing"], b"Fault: read\n")?,
+        (3, true)
+    );
     Ok(())
 }

@@ -1,4 +1,4 @@
-use Rattle.std.proofs.Common.{◌≡◌, ◌≤◌, Err, length, sym, ap, subst, ◌∙◌, inl, inr, arith}
+use Rattle.std.proofs.Common.{◌≤◌, Err, length, sym, ap, subst, inl, inr, arith}
 use Rattle.mn_model.specs.declared.limits.TheConstants.{TEXT_BYTES}
 use Rattle.mn_outside.specs.Reading.{IsFileAt}
 use Rattle.mn_driver.specs.Loads.{Unloads}

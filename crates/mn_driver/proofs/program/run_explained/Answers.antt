@@ -1,4 +1,4 @@
-use Rattle.std.proofs.Common.{◌≡◌, map, string_bytes, sym, subst, ℕ}
+use Rattle.std.proofs.Common.{map, string_bytes, sym, subst, ℕ}
 use Rattle.mn_driver.specs.Codes.{unflushed}
 use Rattle.mn_driver.specs.Explains.{Explains}
 use Rattle.mn_driver.specs.Words.{asked}

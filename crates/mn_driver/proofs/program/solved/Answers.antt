@@ -1,4 +1,4 @@
-use Rattle.std.proofs.Common.{◌≡◌, sym, subst, ℕ, ◌∙◌}
+use Rattle.std.proofs.Common.{sym, subst, ℕ}
 use Rattle.mn_driver.specs.Explains.{Solves}
 use Rattle.mn_driver.specs.declared.status.Status.{Status}
 use Rattle.mn_driver.specs.declared.status.Status.TheVariants.{NoMemory}
