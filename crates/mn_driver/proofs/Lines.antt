@@ -1,13 +1,12 @@
 -- Lines that are written behind what a run has written.
-use Rattle.std.proofs.Common.{◌≡◌, ℕ, ◌≤◌, List, [], Option, Result, OnOk, OnErr, Ok, Err, take, ap, ◌∙◌, inl, inr, arith, length}
+use Rattle.std.proofs.Common.{◌≡◌, ℕ, ◌≤◌, List, [], Option, Result, OnOk, OnErr, Ok, Err, take, ap, ◌∙◌, inl, inr}
 use Rattle.mn_model.specs.Problem.{Problem}
-use Rattle.mn_model.specs.Solutions.{listed}
 use Rattle.mn_outside.specs.Content.{WritesPart, with_bytes}
 use Rattle.mn_outside.specs.Faults.{HasRisen}
 use Rattle.mn_outside.specs.Laws.{HasRisen-before, with_bytes-with_bytes}
-use Rattle.mn_driver.specs.Report.{capped, memory_line, report}
+use Rattle.mn_driver.specs.Report.{memory_line, report}
 use Rattle.mn_driver.specs.Runs.{AddsLine}
-use Rattle.mn_driver.specs.Written.{IsFrontOf, WritesSome}
+use Rattle.mn_driver.specs.Written.{CountsBlocks, IsFrontOf, WritesSome}
 use Rattle.mn_driver.proofs.Solving.{part_is_front}
 
 -- the line was written, or a part of it
@@ -23,6 +22,6 @@ said_behind old mid new before middle after done line first kept (inr (risen, (p
 
 -- so is the line of want of memory
 pub memory_said : (p : Problem) (old mid new : Option (List ℕ)) (before middle after solutions : ℕ) → WritesSome p old mid solutions → before ≤ middle → AddsLine mid new middle after [] memory_line
-    → (done : List ℕ) × IsFrontOf done (report p) × (solutions ≤ capped (length (listed p))) × AddsLine old new before after done memory_line
+    → (done : List ℕ) × IsFrontOf done (report p) × CountsBlocks p done solutions × AddsLine old new before after done memory_line
 memory_said p old mid new before middle after solutions some kept line =
-    (some.bytes, some.front, (let w = some.counted.within in omega (arith, some.count)), said_behind old mid new before middle after some.bytes memory_line some.written kept line)
+    (some.bytes, some.front, (some.blocks, some.counted, some.count), said_behind old mid new before middle after some.bytes memory_line some.written kept line)

@@ -1,16 +1,15 @@
 -- What each status of a run tells of what the run met and wrote.
-use Rattle.std.specs.Prelude.{◌≡◌, ℕ, ◌≤◌, ◌⊎◌, List, [], length, Option, IsSomeAnd, None}
+use Rattle.std.specs.Prelude.{◌≡◌, ℕ, ◌≤◌, ◌⊎◌, List, [], Option, IsSomeAnd, None}
 use Rattle.mn_model.specs.Problem.{Problem}
-use Rattle.mn_model.specs.Solutions.{listed}
 use Rattle.mn_model.specs.declared.limits.TheConstants.{TEXT_BYTES}
 use Rattle.mn_model.specs.declared.refusal.Refusal.TheVariants.{Limit, Unsupported}
 use Rattle.mn_model.specs.declared.refusal.Which.TheVariants.{Text}
 use Rattle.mn_outside.specs.Content.{FileMap}
 use Rattle.mn_outside.specs.Faults.{HasRisen}
-use Rattle.mn_driver.specs.Report.{capped, memory_line, read_line, report, too_long_line, unsupported_line, usage_line}
+use Rattle.mn_driver.specs.Report.{memory_line, read_line, report, too_long_line, unsupported_line, usage_line}
 use Rattle.mn_driver.specs.Loads.{Unloads}
 use Rattle.mn_driver.specs.Runs.{AddsLine, IsTheModel}
-use Rattle.mn_driver.specs.Written.{IsFrontOf, WritesReport, WritesSome}
+use Rattle.mn_driver.specs.Written.{CountsBlocks, IsFrontOf, WritesReport, WritesSome}
 use Rattle.mn_driver.specs.declared.load.Unloaded.{Unloaded}
 use Rattle.mn_driver.specs.declared.load.Unloaded.TheVariants as unloads
 use Rattle.mn_driver.specs.declared.status.Status.{Status}
@@ -23,7 +22,7 @@ module _ (old new : Option (List ℕ)) (before after : ℕ) where
   abbrev pub Solves : Problem → Status → ℕ → Type 0
   Solves p Complete solutions = WritesReport p old new solutions
   Solves p WriteFault solutions = HasRisen before after × WritesSome p old new solutions
-  Solves p NoMemory solutions = (done : List ℕ) × IsFrontOf done (report p) × (solutions ≤ capped (length (listed p))) × AddsLine old new before after done memory_line
+  Solves p NoMemory solutions = (done : List ℕ) × IsFrontOf done (report p) × CountsBlocks p done solutions × AddsLine old new before after done memory_line
   Solves p _ solutions = ⊥
 
   -- what a run wrote that came to no instance, by its status and why

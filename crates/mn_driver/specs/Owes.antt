@@ -1,11 +1,10 @@
 -- The words of the clauses of a run.
-use Rattle.std.specs.Prelude.{◌≡◌, ℕ, ◌≤◌, ◌⊎◌, List, [], length, Option}
+use Rattle.std.specs.Prelude.{◌≡◌, ℕ, ◌⊎◌, List, [], Option}
 use Rattle.mn_model.specs.Problem.{Problem}
-use Rattle.mn_model.specs.Solutions.{listed}
 use Rattle.mn_outside.specs.Content.{FileMap}
-use Rattle.mn_driver.specs.Report.{capped, report}
+use Rattle.mn_driver.specs.Report.{report}
 use Rattle.mn_driver.specs.Runs.{IsTheModel}
-use Rattle.mn_driver.specs.Written.{IsFrontOf}
+use Rattle.mn_driver.specs.Written.{CountsBlocks, IsFrontOf}
 use Rattle.mn_driver.specs.declared.status.Status.{Status}
 use Rattle.mn_driver.specs.declared.status.Status.TheVariants.{Complete, WriteFault, ReadFault, NoMemory}
 
@@ -17,8 +16,8 @@ Yields status expected = (status ≡ expected) ⊎ (status ≡ ReadFault) ⊎ (s
 abbrev pub IsModelStatus : Status → Type 0
 IsModelStatus status = (status ≡ Complete) ⊎ (status ≡ WriteFault) ⊎ (status ≡ ReadFault) ⊎ (status ≡ NoMemory)
 
--- what was written before memory ran out: nothing, or a front of the report
+-- what was written before memory ran out: nothing, or a front of the report with so many blocks whole
 abbrev pub StoppedAt : Option FileMap → List ℕ → List ℕ → ℕ → Type 0
 StoppedAt told name done solutions =
     ((done ≡ []) × (solutions ≡ 0))
-    ⊎ ((p : Problem) × IsTheModel told name p × IsFrontOf done (report p) × (solutions ≤ capped (length (listed p))))
+    ⊎ ((p : Problem) × IsTheModel told name p × IsFrontOf done (report p) × CountsBlocks p done solutions)

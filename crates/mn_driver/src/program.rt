@@ -180,7 +180,7 @@ pub fn run<F: Files, O: Sink>(
         HasRisen (F.reading files.old name) (F.reading files.new name) × (result.solutions ≡ 0)
         × AddsLine (O.content out.old) (O.content out.new) (O.faults out.old) (O.faults out.new) [] read_line) }
 
-    // Want of memory: a front of the report, and behind it the fault's line.
+    // Want of memory: a front of the report with so many blocks whole, and behind it the fault's line.
     ensures no_memory { result.status ≡ Status.NoMemory → IsSomeAnd (asked (map string_bytes words.now.items)) (λ name. (done : List ℕ)
         × StoppedAt (F.content files.old) name done result.solutions
         × AddsLine (O.content out.old) (O.content out.new) (O.faults out.old) (O.faults out.new) done memory_line) }
