@@ -1,3 +1,4 @@
+pub mod Ascending
 pub mod Assignments
 pub mod Found
 pub mod Kept

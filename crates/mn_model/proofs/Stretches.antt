@@ -1,9 +1,10 @@
 -- A stretch of numbers is a domain between its two ends.
-use Rattle.std.proofs.Common.{◌≡◌, ℕ, zero, suc, ◌-◌, ◌<◌, ℤ, pos, ◌-ℤ◌, negsuc, ◌+ℤ◌, ◌<ℤ◌, ◌≤ℤ◌, neg_ℤ, List, [], ◌∷◌, length, slice_get, Some, refl, sym, ap, subst, ◌∙◌, arith}
+use Rattle.std.proofs.Common.{◌≡◌, ℕ, zero, suc, ◌-◌, ◌<◌, ℤ, pos, ◌-ℤ◌, negsuc, ◌+ℤ◌, ◌<ℤ◌, ◌≤ℤ◌, neg_ℤ, ◌⊎◌, inl, inr, ◌↔◌, List, [], ◌∷◌, length, slice_get, Some, refl, sym, ap, subst, ◌∙◌, arith}
 use Rattle.std.proofs.lemmas.Int.{ints}
 use Rattle.std.specs.Int.{int_gap}
 use Rattle.std.specs.List.{AllByRecursion}
-use Rattle.mn_model.specs.Domain.{numbers_from, stretch, values_of, IsValue, Ascends, IsDomain, IsDomainFrom}
+use Rattle.mn_model.specs.Decided.{Decided, decide_int}
+use Rattle.mn_model.specs.Domain.{numbers_from, stretch, values_of, Has, IsValue, Ascends, IsDomain, IsDomainFrom}
 use Rattle.mn_model.specs.declared.limits.TheConstants.{VALUE}
 
 pub length-numbers_from : (lo : ℤ) (n : ℕ) → length (numbers_from lo n) ≡ n
@@ -94,3 +95,31 @@ stretched_to lo hi listed values i ordered none is within =
       value = ap (λ vs. slice_get vs i) same ∙ slice_get-stretch lo hi i inside;
       bound = omega (arith, ints, length-stretch lo hi ordered);
     }
+
+-- a number is among those from lo on exactly where it is between the ends
+Has-from_numbers : (lo : ℤ) (n : ℕ) (a : ℤ) → Has (numbers_from lo n) a → (lo ≤ℤ a) × (a <ℤ (lo +ℤ pos n))
+unfolding numbers_from
+Has-from_numbers lo zero a has = absurd has
+Has-from_numbers lo (suc n) a (inl is) = (omega (arith, ints, is), omega (arith, ints, is))
+Has-from_numbers lo (suc n) a (inr later) = let has = Has-from_numbers (lo +ℤ pos 1) n a later in (omega (arith, ints, has.0), omega (arith, ints, has.1))
+
+Has-numbers_from : (lo : ℤ) (n : ℕ) (a : ℤ) → lo ≤ℤ a → a <ℤ (lo +ℤ pos n) → Has (numbers_from lo n) a
+unfolding numbers_from
+Has-numbers_from lo zero a low high = absurd (omega (arith, ints))
+Has-numbers_from lo (suc n) a low high = by (decide_int lo a) (λ above. Has-numbers_from (lo +ℤ pos 1) n a above (omega (arith, ints)))
+  where
+    by : Decided (lo ≡ a) → ((lo +ℤ pos 1) ≤ℤ a → Has (numbers_from (lo +ℤ pos 1) n) a) → (lo ≡ a) ⊎ Has (numbers_from (lo +ℤ pos 1) n) a
+    by (inl is) later = inl is
+    by (inr differs) later = inr (later (omega (arith, ints, differs)))
+
+-- a stretch has the numbers between its ends
+pub Has-stretch : (lo hi a : ℤ) → lo ≤ℤ hi → Has (stretch lo hi) a ↔ ((lo ≤ℤ a) × (a ≤ℤ hi))
+unfolding stretch
+Has-stretch lo hi a ordered = (
+  λ has. let between = Has-from_numbers lo (suc (int_gap lo hi)) a has in (between.0, omega (arith, ints, between.1, plus-int_gap lo hi ordered)),
+  λ between. Has-numbers_from lo (suc (int_gap lo hi)) a between.0 (omega (arith, ints, between.1, plus-int_gap lo hi ordered)),
+)
+
+-- so has a domain whose values are those of the stretch
+pub has_stretch : (lo hi : ℤ) (listed values : List ℤ) (a : ℤ) → lo ≤ℤ hi → listed ≡ [] → values_of lo hi listed ≡ values → Has values a ↔ ((lo ≤ℤ a) × (a ≤ℤ hi))
+has_stretch lo hi listed values a ordered none is = subst (λ vs. Has vs a ↔ ((lo ≤ℤ a) × (a ≤ℤ hi))) (sym (domain_is_stretch lo hi listed values none is)) (Has-stretch lo hi a ordered)

@@ -1,5 +1,6 @@
-ghost use Rattle.std.specs.Prelude.{◌≡◌, ◌<◌, ◌≤ℤ◌, length, slice_get, Some};
-ghost use Rattle.mn_model.specs.Domain.{IsDomain, IsFirst, IsLast, IsValue, stretch};
+ghost use Rattle.std.specs.Prelude.{◌≡◌, ◌<◌, ◌≤ℤ◌, ◌↔◌, IsTrue, [], length, slice_get, Some};
+ghost use Rattle.std.specs.List.{AllByRecursion};
+ghost use Rattle.mn_model.specs.Domain.{Ascends, Has, IsDomain, IsFirst, IsLast, IsValue, stretch};
 
 use super::Ints;
 use std::alloc::Global;
@@ -40,6 +41,20 @@ impl Domain {
         }
     }
 
+    /// These values and no others.
+    pub fn listed(values: Ints) -> Domain
+        requires filled { values ≡ [] → ⊥ }
+        requires ascends { Ascends values }
+        requires valued { AllByRecursion IsValue values }
+        ensures { result ≡ values }
+    {
+        Domain {
+            lo: *values.get(0),
+            hi: *values.get(values.len() - 1),
+            listed: values,
+        }
+    }
+
     /// The least value.
     pub fn lo(&self) -> i64
         ensures { IsFirst result self.now }
@@ -52,6 +67,17 @@ impl Domain {
         ensures { IsLast result self.now }
     {
         self.hi
+    }
+
+    /// Whether `a` is one of the values.
+    pub fn has(&self, a: i64) -> bool
+        ensures { IsTrue result ↔ Has self.now a }
+    {
+        if self.listed.is_empty() {
+            self.lo <= a && a <= self.hi
+        } else {
+            self.listed.as_slice().binary_search(&a).is_ok()
+        }
     }
 
     /// How many values there are.

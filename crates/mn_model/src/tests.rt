@@ -1,7 +1,7 @@
 // Worked examples, and that each call can succeed.
-ghost use Rattle.std.specs.Prelude.{◌≡◌, [], ◌∷◌, IfOk};
+ghost use Rattle.std.specs.Prelude.{◌≡◌, [], ◌∷◌, negsuc, pos, IfOk};
 
-use crate::{Con, Dims, Domain, Instance, Kind, Term, Text, VarId, is_name};
+use crate::{Con, Dims, Domain, Instance, Ints, Kind, Term, Text, VarId, is_name};
 use std::alloc::{AllocError, Global};
 use std::test::Fail;
 
@@ -80,6 +80,35 @@ fn problem(alloc: Global) -> Result<Instance, AllocError> {
         sign,
     )?;
     Ok(problem)
+}
+
+fn three_values(alloc: Global) -> Result<Ints, AllocError>
+    ensures { IfOk result (λ values. values ≡ negsuc 4 ∷ pos 0 ∷ pos 7 ∷ []) }
+{
+    let mut values = Ints::new(alloc);
+    values.push(-5)?;
+    values.push(0)?;
+    values.push(7)?;
+    Ok(values)
+}
+
+#[test]
+fn listed_values_are_told(rt: HostRuntime) -> Result<(), Fail> {
+    let domain = Domain::listed(three_values(rt.alloc())?);
+    assert_eq!(rt; domain.lo(), -5);
+    assert_eq!(rt; domain.hi(), 7);
+    assert_eq!(rt; domain.size(), 3);
+    for (a, is_there) in [
+        (-6, false),
+        (-5, true),
+        (-1, false),
+        (0, true),
+        (7, true),
+        (8, false),
+    ] {
+        assert_eq!(rt; domain.has(a), is_there, "of {a}");
+    }
+    Ok(())
 }
 
 #[test]
