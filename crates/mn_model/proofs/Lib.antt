@@ -1,8 +1,7 @@
+pub mod Adding
 pub mod Ascending
-pub mod Assignments
 pub mod Found
 pub mod Kept
-pub mod MemberLemmas
 pub mod NameParts
 pub mod Sizes
 pub mod Stretches

@@ -1,10 +1,10 @@
 pub mod Decided
 pub mod Domain
 pub mod Index
-pub mod Laws
-pub mod Meaning
+pub mod Lawful
 pub mod Members
 pub mod Name
+pub mod Negation
+pub mod Parts
 pub mod Problem
-pub mod Solutions
 pub mod Variable

@@ -1,25 +1,29 @@
--- What contracts see of an instance, and what makes it lawful.
-use Rattle.std.specs.Prelude.{◌≡◌, ℕ, ◌+◌, ◌*◌, ◌<◌, ◌≤◌, nat_lt, if◌then◌else◌, ℤ, pos, ◌⊎◌, List, [], ◌∷◌, ◌++◌, length, map, replicate, slice_get, Option, Some, None}
-use Rattle.std.specs.List.{AllByRecursion, flat_map}
-use Rattle.std.specs.Option.{option_map}
+-- What contracts see of an instance: its lists, and what they say of names and variables.
+use Rattle.std.specs.Prelude.{◌≡◌, ℕ, zero, suc, ◌+◌, ◌*◌, nat_lt, if◌then◌else◌, ℤ, List, [], ◌∷◌, ◌++◌, length, map, replicate, slice_get, Option, Some, None}
+use Rattle.std.specs.List.{flat_map}
+use Rattle.std.specs.Option.{option_map, option_and_then}
 use Rattle.std.specs.Str.{bytes_eq}
-use Rattle.mn_model.specs.Domain.{IsDomain, IsValue, stretch}
-use Rattle.mn_model.specs.Meaning.{places}
-use Rattle.mn_model.specs.Name.{IsName}
+use Rattle.mn_model.specs.Parts.{cell_count}
 use Rattle.mn_model.specs.Variable.{number_of, variable}
 use Rattle.mn_model.specs.declared.constraint.Con.{Con}
-use Rattle.mn_model.specs.declared.constraint.Term.{Term}
-use Rattle.mn_model.specs.declared.constraint.Term.TheVariants.{Var, Const, Not}
-use Rattle.mn_model.specs.declared.instance.Decl.{Decl}
-use Rattle.mn_model.specs.declared.limits.TheConstants.{VARIABLES, CONSTRAINTS, SPAN}
-use Rattle.mn_model.specs.declared.variable.Kind.{Kind}
+use Rattle.mn_model.specs.declared.declaration.Alias.{Alias}
+use Rattle.mn_model.specs.declared.declaration.Decl.{Decl}
+use Rattle.mn_model.specs.declared.declaration.Tuples.{Tuples}
+use Rattle.mn_model.specs.declared.search.Goal.{Goal}
+use Rattle.mn_model.specs.declared.search.Order.{Order}
+use Rattle.mn_model.specs.declared.search.Print.{Print}
+use Rattle.mn_model.specs.declared.search.Print.TheVariants.{All}
 use Rattle.mn_model.specs.declared.variable.VarId.{VarId}
-use Rattle.mn_model.specs.declared.variable.Kind.TheVariants.{Binary, Bounded, Sparse, Discrete}
 
--- an instance: its declarations and its constraints, in the order of the text
+-- an instance: what it declares, what it asks, how it is searched and what is printed, in the order of the text
 pub record Problem : Type 0 where
   pub decls : List Decl
+  pub aliases : List Alias
+  pub tuples : List Tuples
   pub cons : List Con
+  pub order : Order
+  pub goal : Option Goal
+  pub print : Print
 
 -- how many variables a declaration makes: the product of its dimensions, and one without any
 abbrev pub size_of_dims : List ℕ → ℕ
@@ -45,60 +49,48 @@ offset_from passed [] (sub ∷ subs) = None
 offset_from passed (dim ∷ dims) [] = None
 offset_from passed (dim ∷ dims) (sub ∷ subs) = if nat_lt sub dim then offset_from (passed * dim + sub) dims subs else None
 
--- the declaration of a name
+-- the first item that has the name
+abbrev pub called : {X : Type 0} → (X → List ℕ) → List X → List ℕ → Option X
+called name_of [] name = None
+called name_of (x ∷ xs) name = if bytes_eq name (name_of x) then Some x else called name_of xs name
+
+-- the declaration, the alias and the tuple list of a name
 abbrev pub declared_as : List Decl → List ℕ → Option Decl
-declared_as [] name = None
-declared_as (d ∷ decls) name = if bytes_eq name d.name then Some d else declared_as decls name
+declared_as decls name = called (λ d. d.name) decls name
+
+abbrev pub aliased_as : List Alias → List ℕ → Option Alias
+aliased_as aliases name = called (λ a. a.name) aliases name
+
+abbrev pub listed_as : List Tuples → List ℕ → Option Tuples
+listed_as tuples name = called (λ t. t.name) tuples name
 
 -- the variable that a declaration has at the indices
 abbrev pub variable_in : Option Decl → List ℕ → Option VarId
 variable_in None subs = None
 variable_in (Some d) subs = option_map (λ offset. variable (number_of d.first + offset)) (offset_from 0 d.dims subs)
 
--- the domain is one that a variable of the kind may have
-abbrev pub SuitsKind : Kind → List ℤ → Type 0
-SuitsKind Binary values = values ≡ stretch (pos 0) (pos 1)
-SuitsKind Bounded values = (lo : ℤ) × (hi : ℤ) × (values ≡ stretch lo hi)
-SuitsKind Sparse values = length values ≤ SPAN
-SuitsKind Discrete values = (lo : ℤ) × (hi : ℤ) × (values ≡ stretch lo hi) × (length values ≤ SPAN)
+-- the variable that an alias has at the indices
+abbrev pub variable_through : Option Alias → List ℕ → Option VarId
+variable_through None subs = None
+variable_through (Some a) subs = option_and_then (λ offset. slice_get a.vars offset) (offset_from 0 a.dims subs)
 
--- a declaration by itself is lawful
-pub record IsLawfulDecl (d : Decl) : Type 0 where
-  pub named : IsName d.name
-  pub shaped : AllByRecursion (λ dim. 1 ≤ dim) d.dims
-  pub domain : IsDomain d.domain
-  pub suits : SuitsKind d.kind d.domain
+-- the variable that a name means at the indices: that of its declaration, or else of its alias
+abbrev pub variable_by : Option Decl → Option Alias → List ℕ → Option VarId
+variable_by (Some d) a subs = variable_in (Some d) subs
+variable_by None a subs = variable_through a subs
 
--- no declaration has the name of one before it, or of the earlier ones
-abbrev pub AreNewAfter : List Decl → List Decl → Type 0
-AreNewAfter earlier [] = Unit {0}
-AreNewAfter earlier (d ∷ decls) = (declared_as earlier d.name ≡ None) × AreNewAfter (earlier ++ d ∷ []) decls
+abbrev pub variable_named : Problem → List ℕ → List ℕ → Option VarId
+variable_named p name subs = variable_by (declared_as p.decls name) (aliased_as p.aliases name) subs
 
--- each begins with the number behind those of the declarations before it
-abbrev pub AreNumberedFrom : ℕ → List Decl → Type 0
-AreNumberedFrom n [] = Unit {0}
-AreNumberedFrom n (d ∷ decls) = (number_of d.first ≡ n) × AreNumberedFrom (n + size_of_dims d.dims) decls
+-- the sum of what each item counts
+abbrev pub total : {X : Type 0} → (X → ℕ) → List X → ℕ
+total count [] = 0
+total count (x ∷ xs) = count x + total count xs
 
--- a variable whose values are 0 and 1
-abbrev pub IsBit : Option (List ℤ) → Type 0
-IsBit None = ⊥
-IsBit (Some values) = AllByRecursion (λ a. (a ≡ pos 0) ⊎ (a ≡ pos 1)) values
+-- how many cells all tuples have, those of tuple lists and those that stand in constraints
+abbrev pub cells_of : Problem → ℕ
+cells_of p = total (λ t. length t.cells) p.tuples + total cell_count p.cons
 
--- the term names a variable, as `Not` one with the values 0 and 1, or a value of a model
-abbrev pub IsLawfulTerm : List (List ℤ) → Term → Type 0
-IsLawfulTerm domains (Var v) = number_of v < length domains
-IsLawfulTerm domains (Const k) = IsValue k
-IsLawfulTerm domains (Not v) = (number_of v < length domains) × IsBit (slice_get domains (number_of v))
-
--- the constraint speaks of declared variables and of values of a model
-abbrev pub IsLawfulCon : List (List ℤ) → Con → Type 0
-IsLawfulCon domains c = AllByRecursion (IsLawfulTerm domains) (places c)
-
--- what every instance keeps
-pub record IsLawful (p : Problem) : Type 0 where
-  pub decls : AllByRecursion IsLawfulDecl p.decls
-  pub distinct : AreNewAfter [] p.decls
-  pub numbered : AreNumberedFrom 0 p.decls
-  pub few_variables : variable_count p.decls ≤ VARIABLES
-  pub cons : AllByRecursion (IsLawfulCon (domains_of p.decls)) p.cons
-  pub few_constraints : length p.cons ≤ CONSTRAINTS
+-- an instance that declares and asks nothing, and prints all
+abbrev pub nothing : Problem
+nothing = record { decls = []; aliases = []; tuples = []; cons = []; order = record { vars = []; down = [] }; goal = None; print = All }

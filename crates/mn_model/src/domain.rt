@@ -1,9 +1,9 @@
-ghost use Rattle.std.specs.Prelude.{◌≡◌, ◌<◌, ◌≤ℤ◌, ◌↔◌, IsTrue, [], length, slice_get, Some};
+ghost use Rattle.std.specs.Prelude.{◌≡◌, ◌<◌, ◌≤ℤ◌, ◌↔◌, IsTrue, [], length, slice_get, Some, IfOk};
 ghost use Rattle.std.specs.List.{AllByRecursion};
 ghost use Rattle.mn_model.specs.Domain.{Ascends, Has, IsDomain, IsFirst, IsLast, IsValue, stretch};
 
 use super::Ints;
-use std::alloc::Global;
+use std::alloc::{AllocError, Global};
 use std::marker::Model;
 
 /// The values that a variable was declared with. Contracts see them as an ascending list.
@@ -108,5 +108,16 @@ impl Domain {
         ensures { IsDomain self.now }
     {
         let _lo = self.lo;
+    }
+
+    /// An equal domain.
+    pub fn copy(&self) -> Result<Domain, AllocError>
+        ensures { IfOk result (λ copy. copy ≡ self.now) }
+    {
+        Ok(Domain {
+            lo: self.lo,
+            hi: self.hi,
+            listed: self.listed.copy()?,
+        })
     }
 }

@@ -18,6 +18,21 @@ pub type Ints = Sequence<i64>;
 /// The dimensions of a matrix of variables, the outermost first. None at all means one variable.
 pub type Dims = Sequence<u32>;
 
+/// The terms of a vector, or of a row that is printed.
+pub type Terms = Sequence<super::Term>;
+
+/// Rows of terms.
+pub type TermRows = Sequence<Terms>;
+
+/// Variables, such as those of VARORDER.
+pub type VarIds = Sequence<super::VarId>;
+
+/// Answers to one question about each of several things.
+pub type Flags = Sequence<bool>;
+
+/// The decisions that lead to a place in a search, the first one first.
+pub type Path = Sequence<super::Step>;
+
 impl<T> Model for Sequence<T> {
     ghost use Rattle.std.specs.Prelude.{List};
     ghost use Rattle.std.specs.Coded.{coded_list};
@@ -37,6 +52,21 @@ impl<T> Sequence<T> {
         Sequence {
             items: Vec::new(alloc),
         }
+    }
+
+    /// The items of a `Vec`.
+    pub fn of(items: Vec<T>) -> Sequence<T>
+        ensures { result ≡ items.items }
+    {
+        Sequence { items }
+    }
+
+    /// The items as a `Vec`.
+    pub fn into_vec(self) -> Vec<T>
+        ensures { result.items ≡ self }
+    {
+        let Sequence { items } = self;
+        items
     }
 
     /// How many items there are.

@@ -1,0 +1,4 @@
+ghost use Rattle.mn_meaning.specs.Laws.{Same};
+pub fn assignments_are_all()
+    ensures { Same }
+{}

@@ -1,0 +1,12 @@
+//! What constraints mean, and which assignments solve an instance.
+//!
+//! `Meets` of `specs/` says of each form of constraint what it means of the values at its places; `Holds` is that
+//! meaning under an assignment; `all_assignments`, `solutions` and `listed` are the lists of assignments that a solver
+//! owes, in the order of the search. `holds`, `holds_over` and `checks` decide these meanings. They take no memory.
+//!
+//! The crate stands on `mn_model`.
+#![tactic(auto)]
+
+mod laws;
+
+pub use laws::assignments_are_all;
