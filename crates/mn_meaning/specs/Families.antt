@@ -124,7 +124,7 @@ cut (suc count) arity cells = take arity cells ∷ cut count arity (drop arity c
 abbrev pub rows_of : ℕ → List ℤ → List (List ℤ)
 rows_of arity cells = cut (length cells / arity) arity cells
 
-decide_same : (xs ys : List ℤ) → Decided (xs ≡ ys)
+pub decide_same : (xs ys : List ℤ) → Decided (xs ≡ ys)
 decide_same [] [] = inl refl
 decide_same [] (b ∷ ys) = inr (λ e. cc)
 decide_same (a ∷ xs) [] = inr (λ e. cc)
