@@ -1,6 +1,7 @@
-pub mod Adding
 pub mod Ascending
+pub mod Children
 pub mod Found
+pub mod Growing
 pub mod Kept
 pub mod NameParts
 pub mod Sizes

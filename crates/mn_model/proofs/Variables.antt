@@ -4,7 +4,7 @@ use Rattle.std.proofs.lemmas.List.{length-replicate}
 use Rattle.std.proofs.lemmas.Option.{get_or_from_slice_get}
 use Rattle.mn_model.specs.Index.{owners_from}
 use Rattle.mn_model.specs.Problem.{size_of_dims, variables_of, variable_count, domains_of}
-use Rattle.mn_model.specs.declared.instance.Decl.{Decl}
+use Rattle.mn_model.specs.declared.declaration.Decl.{Decl}
 
 -- copies in front of a list
 front : {X : Type 0} (k : ℕ) (a : X) (xs : List X) (v : ℕ) → v < k → slice_get (replicate k a ++ xs) v ≡ Some a

@@ -12,11 +12,13 @@ impl Con {
         ensures { result ≡ cell_count self.now }
     {
         match self {
-            Con::Table(_, tab) | Con::Negativetable(_, tab) => tab.cells(),
-            Con::WatchedOr(children) | Con::WatchedAnd(children) => children.cells(),
-            Con::Reify(part, _) | Con::Reifyimply(part, _) | Con::Negated(part) => {
-                part.get().cells()
-            }
+            Con::Table(_, tab) => tab.cells(),
+            Con::Negativetable(_, tab) => tab.cells(),
+            Con::WatchedOr(children) => children.cells(),
+            Con::WatchedAnd(children) => children.cells(),
+            Con::Reify(part, _) => part.get().cells(),
+            Con::Reifyimply(part, _) => part.get().cells(),
+            Con::Negated(part) => part.get().cells(),
             _ => 0,
         }
     }

@@ -1,6 +1,6 @@
 ghost use Rattle.std.specs.Prelude.{◌≡◌, IfOk, ◌++◌, ◌∷◌, [], pos, negsuc, replicate};
 ghost use Rattle.mn_model.specs.Lawful.{HasNearConstants, HaveNearConstants, IsNearTerm};
-ghost use Rattle.mn_model.specs.Negation.{negation, negations, more, other, at_least_above, at_most_below};
+ghost use Rattle.mn_model.specs.Negation.{negation, negations, more, negated, reified, other, at_least_above, at_most_below};
 ghost use Rattle.mn_model.specs.declared.constraint.Con.TheVariants.{WatchedAnd, WLiteral, End};
 
 use super::{Con, Cons, Ints, Term, Terms};
@@ -41,17 +41,46 @@ pub fn reverse(alloc: Global, con: &Con) -> Result<Con, AllocError>
         Con::Never => Ok(Con::Always),
         Con::WatchedOr(children) => Ok(Con::WatchedAnd(reverse_each(alloc, children)?)),
         Con::WatchedAnd(children) => Ok(Con::WatchedOr(reverse_each(alloc, children)?)),
-        Con::Reify(part, r) => Ok(Con::Reify(
-            Boxed::new(alloc, part.get().copy(alloc)?)?,
-            other(*r),
-        )),
+        Con::Reify(part, r) => reified(alloc, part.get(), other(*r)),
         Con::Reifyimply(part, r) => {
             let reversed = reverse(alloc, part.get())?;
             in_force_without(alloc, *r, reversed)
         }
         Con::Negated(part) => part.get().copy(alloc),
-        _ => Ok(Con::Negated(Boxed::new(alloc, con.copy(alloc)?)?)),
+        Con::Minuseq(_, _) => negated(alloc, con),
+        Con::Abs(_, _) => negated(alloc, con),
+        Con::Difference(_, _, _) => negated(alloc, con),
+        Con::Product(_, _, _) => negated(alloc, con),
+        Con::Div(_, _, _) => negated(alloc, con),
+        Con::Modulo(_, _, _) => negated(alloc, con),
+        Con::Max(_, _) => negated(alloc, con),
+        Con::Min(_, _) => negated(alloc, con),
+        Con::Litsumgeq(_, _, _) => negated(alloc, con),
+        Con::Element(_, _, _) => negated(alloc, con),
+        Con::Watchelement(_, _, _) => negated(alloc, con),
+        Con::ElementOne(_, _, _) => negated(alloc, con),
+        Con::WatchelementOne(_, _, _) => negated(alloc, con),
+        Con::Alldiff(_) => negated(alloc, con),
+        Con::Watchvecneq(_, _) => negated(alloc, con),
+        Con::Hamming(_, _, _) => negated(alloc, con),
+        Con::Occurrence(_, _, _) => negated(alloc, con),
+        Con::Nvalueleq(_, _) => negated(alloc, con),
+        Con::WInintervalset(_, _) => negated(alloc, con),
     }
+}
+
+// The constraint that says of a leaf that it doesn't hold.
+fn negated(alloc: Global, con: &Con) -> Result<Con, AllocError>
+    ensures { IfOk result (λ whole. whole ≡ negated con.now) }
+{
+    Ok(Con::Negated(Boxed::new(alloc, con.copy(alloc)?)?))
+}
+
+// The constraint that a 0/1 term is 1 exactly where another holds.
+fn reified(alloc: Global, con: &Con, r: Term) -> Result<Con, AllocError>
+    ensures { IfOk result (λ whole. whole ≡ reified con.now r) }
+{
+    Ok(Con::Reify(Boxed::new(alloc, con.copy(alloc)?)?, r))
 }
 
 #[cycle(reversing)]

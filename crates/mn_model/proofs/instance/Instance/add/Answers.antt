@@ -1,17 +1,15 @@
-use Rattle.std.proofs.Common.{◌≡◌, List, ◌<◌, length, sym, subst}
-use Rattle.mn_model.specs.Index.{IsKept}
-use Rattle.mn_model.specs.Problem.{IsLawfulCon, Problem, domains_of}
-use Rattle.mn_model.specs.declared.constraint.Con.{Con}
-use Rattle.mn_model.specs.declared.limits.TheConstants.{CONSTRAINTS}
-use Rattle.mn_model.proofs.Adding.{added}
+use Rattle.std.proofs.Common.{◌≡◌, ◌+◌, ◌<◌, ◌≤◌, length, sym, subst}
+use Rattle.mn_model.specs.Lawful.{IsLawfulCon}
+use Rattle.mn_model.specs.Parts.{cell_count}
+use Rattle.mn_model.specs.Problem.{Problem, domains_of, cells_of}
+use Rattle.mn_model.specs.declared.limits.TheConstants.{CELLS, CONSTRAINTS}
+use Rattle.mn_model.proofs.Growing.{IsKept-add}
 use Rattle.mn_model.proofs.instance.Instance.add.Goals as goal
 
 pub invariant_of-self-2 : goal.invariant_of-self-2
 invariant_of-self-2 c =
-    let lawful = subst (λ (p : Problem). IsLawfulCon (domains_of p.decls) c.args.con) (sym c.self.view_is) c.requires.lawful in
+    let lawful = subst (λ (p : Problem). IsLawfulCon (domains_of p.decls) p.tuples c.args.con) (sym c.self.view_is) c.requires.lawful in
     let room = subst (λ (p : Problem). length p.cons < CONSTRAINTS) (sym c.self.view_is) c.requires.room in
-    subst (λ (cons : List Con). IsKept c.self.inside.decls.items c.self.inside.names.entries c.self.inside.owners.items cons) (sym c.in_ok-push.ensures.ok) (record {
-      named = c.self.invariant.named;
-      owned = c.self.invariant.owned;
-      lawful = added c.self.inside.decls.items c.self.inside.cons c.args.con c.self.invariant.lawful lawful room;
-    })
+    let cells = subst (λ (p : Problem). cells_of p + cell_count c.args.con ≤ CELLS) (sym c.self.view_is) c.requires.cells in
+    IsKept-add _ c.self.inside.names.entries c.self.inside.lists.entries c.self.inside.owners.items c.self.inside.cells c.self.invariant
+    c.args.con c.push.new.self c.cells-count.result c.in_ok-push.ensures.ok lawful room cells c.cells-count.ensures

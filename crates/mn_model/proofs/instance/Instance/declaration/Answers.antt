@@ -3,7 +3,7 @@ use Rattle.std.proofs.lemmas.Option.{slice_get_read}
 use Rattle.mn_model.proofs.Variables.{length-owners_from, owner-within, owner-declares}
 use Rattle.mn_model.specs.Index.{owners_from}
 use Rattle.mn_model.specs.Problem.{variable_count, variables_of}
-use Rattle.mn_model.specs.declared.instance.Decl.{Decl}
+use Rattle.mn_model.specs.declared.declaration.Decl.{Decl}
 use Rattle.mn_model.proofs.instance.Instance.declaration.Goals as goal
 
 -- the variable is declared by what the instance holds

@@ -6,7 +6,7 @@ use Rattle.std.specs.Str.{bytes_eq}
 use Rattle.mn_model.specs.Index.{entries_read, names_from}
 use Rattle.mn_model.specs.Problem.{declared_as, size_of_dims, variable_count, IsLawfulDecl}
 use Rattle.mn_model.specs.Variable.{number_of}
-use Rattle.mn_model.specs.declared.instance.Decl.{Decl}
+use Rattle.mn_model.specs.declared.declaration.Decl.{Decl}
 use Rattle.mn_model.proofs.Found.{found_at, undeclared, lookup-entries_read}
 use Rattle.mn_model.proofs.Kept.{AllByRecursion-at, numbered_within}
 use Rattle.mn_model.proofs.instance.Instance.find.Goals as goal
