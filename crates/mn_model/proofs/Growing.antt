@@ -1,6 +1,6 @@
 -- What the parts of an instance keep when it grows.
-use Rattle.std.proofs.Common.{◌≡◌, ℕ, ◌+◌, ◌<◌, ◌≤◌, List, [], ◌∷◌, ◌++◌, length, Option, None, Some, ap, sym, subst, ◌∙◌, arith, String}
-use Rattle.std.specs.List.{AllByRecursion}
+use Rattle.std.proofs.Common.{◌≡◌, ℕ, ◌+◌, ◌<◌, ◌≤◌, List, [], ◌∷◌, ◌++◌, length, Option, None, Some, refl, ap, sym, subst, ◌∙◌, arith, String, string_bytes}
+use Rattle.std.specs.List.{AllByRecursion, AllZip}
 use Rattle.std.specs.Map.{lookup}
 use Rattle.std.specs.Str.{bytes_eq}
 use Rattle.mn_model.proofs.Found.{unfound, nothing_found}
@@ -93,3 +93,21 @@ module _ {A : Type 0} (p : Problem) (names : List (String A × Entry)) (lists : 
     counted = kept.counted;
     lawful = IsLawful-search p o g q kept.lawful ordered aimed printed;
   }
+
+  -- an equal problem with equal indices
+  pub IsKept-copy : (p2 : Problem) (names2 : List (String A × Entry)) (lists2 : List (String A × ℕ)) (owners2 : List ℕ) → p2 ≡ p → entries_read names2 ≡ entries_read names → entries_read lists2 ≡ entries_read lists → owners2 ≡ owners → IsKept p2 names2 lists2 owners2 cells
+  IsKept-copy p2 names2 lists2 owners2 same read listed owned = subst (λ p. IsKept p names2 lists2 owners2 cells) (sym same) (record {
+    named = ap declared_in read ∙ kept.named;
+    aliased = ap aliased_in read ∙ kept.aliased;
+    listed = listed ∙ kept.listed;
+    owned = owned ∙ kept.owned;
+    counted = kept.counted;
+    lawful = kept.lawful;
+  })
+
+-- the entries of a copied index are read as those of the index
+pub copied_read : {A V : Type 0} (xs ys : List (String A × V)) → AllZip (λ p q. (string_bytes q.0 ≡ string_bytes p.0) × (q.1 ≡ p.1)) xs ys → entries_read ys ≡ entries_read xs
+copied_read [] [] zip = refl
+copied_read [] (y ∷ ys) zip = absurd zip
+copied_read (x ∷ xs) [] zip = absurd zip
+copied_read (x ∷ xs) (y ∷ ys) zip = λ i. (zip.0.0 i, zip.0.1 i) ∷ copied_read xs ys zip.1 i

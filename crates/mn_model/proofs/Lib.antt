@@ -3,6 +3,7 @@ pub mod Children
 pub mod Found
 pub mod Growing
 pub mod Kept
+pub mod Looking
 pub mod NameParts
 pub mod Sizes
 pub mod Stretches

@@ -47,3 +47,11 @@ one_index_more passed dim sub rest whole all below =
     let more : (passed * dim + sub + 1) * rest ≤ (passed * dim + dim) * rest = mul-le-mul_right rest (omega arith) in
     let same : (passed + 1) * (dim * rest) ≡ (passed * dim + dim) * rest = sym (mul_assoc (passed + 1) dim rest) ∙ ap (λ k. k * rest) (omega arith) in
     omega arith
+
+-- one index further leads to the same place
+pub one_step_further : (passed i : ℕ) (dims subs : List ℕ) → i < length dims → i < length subs → nat_lt (get_or subs i 0) (get_or dims i 0) ≡ true
+    → offset_from (passed * get_or dims i 0 + get_or subs i 0) (drop (i + 1) dims) (drop (i + 1) subs) ≡ offset_from passed (drop i dims) (drop i subs)
+one_step_further passed i [] subs in_dims in_subs below = absurd (omega arith)
+one_step_further passed i (dim ∷ dims) [] in_dims in_subs below = absurd (omega arith)
+one_step_further passed zero (dim ∷ dims) (sub ∷ subs) in_dims in_subs below = sym (ap (λ b. if b then offset_from (passed * dim + sub) dims subs else None) below)
+one_step_further passed (suc i) (dim ∷ dims) (sub ∷ subs) in_dims in_subs below = rw (suc_plus_one i) (one_step_further passed i dims subs (omega arith) (omega arith) below)

@@ -1,12 +1,8 @@
 ghost use Rattle.std.specs.Prelude.{◌≡◌, ◌≤◌, ◌<◌, IfSome};
 ghost use Rattle.std.specs.List.{AllByRecursion};
-ghost use Rattle.mn_model.specs.declared.dims.TheConstants.{MOST};
 ghost use Rattle.mn_model.specs.Problem.{offset_from, size_of_dims};
 
 use super::{Dims, VARIABLES};
-
-/// More places than a list in memory has.
-const MOST: usize = 9_223_372_036_854_775_807;
 
 /// How many places a matrix of these dimensions has.
 pub fn size_of(dims: &Dims) -> usize
@@ -21,10 +17,11 @@ pub fn size_of(dims: &Dims) -> usize
     size
 }
 
-/// The place of an entry in a matrix of these dimensions, the last index running fastest.
-pub fn offset_of(dims: &[u32], subs: &[u32]) -> Option<usize>
+/// The place of an entry in a matrix of these dimensions, which has at most so many places, the last index running
+/// fastest.
+pub fn offset_of(dims: &[u32], subs: &[u32], _most: usize) -> Option<usize>
     requires shaped { AllByRecursion (λ dim. 1 ≤ dim) dims.now }
-    requires few { size_of_dims dims.now ≤ MOST }
+    requires few { size_of_dims dims.now ≤ _most }
     ensures place { result ≡ offset_from 0 dims.now subs.now }
     ensures within { IfSome result (λ offset. offset < size_of_dims dims.now) }
 {

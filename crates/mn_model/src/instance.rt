@@ -362,7 +362,7 @@ impl Instance {
             decls: copy_all(alloc, self.decls.as_slice())?,
             aliases: copy_all(alloc, self.aliases.as_slice())?,
             names: self.names.clone()?,
-            owners: self.owners.clone()?,
+            owners: Vec::from_slice(alloc, self.owners.as_slice())?,
             tuples: copy_all(alloc, self.tuples.as_slice())?,
             lists: self.lists.clone()?,
             cons: copy_of_each(alloc, &self.cons)?,
@@ -381,7 +381,7 @@ fn declared_variable(decl: &Decl, subs: &[u32]) -> Option<VarId>
     ensures place { result ≡ variable_in (Some decl.now) subs.now }
     ensures within { IfSome result (λ v. number_of v < number_of decl.now.first + size_of_dims decl.now.dims) }
 {
-    let offset = offset_of(decl.dims.as_slice(), subs)?;
+    let offset = offset_of(decl.dims.as_slice(), subs, VARIABLES as usize)?;
     Some(VarId::new(decl.first.number() + offset as u32))
 }
 
@@ -391,6 +391,7 @@ fn aliased_variable(alias: &Alias, subs: &[u32]) -> Option<VarId>
     requires filled { length alias.now.vars ≡ size_of_dims alias.now.dims }
     ensures place { result ≡ variable_through (Some alias.now) subs.now }
 {
-    let offset = offset_of(alias.dims.as_slice(), subs)?;
-    Some(*alias.vars.get(offset))
+    let vars = alias.vars.as_slice();
+    let offset = offset_of(alias.dims.as_slice(), subs, vars.len())?;
+    Some(vars[offset])
 }
