@@ -3,7 +3,7 @@ use Rattle.std.proofs.Common.{◌≡◌, ℕ, ◌<◌, List, [], ◌∷◌, ◌+
 use Rattle.std.specs.List.{flat_map}
 use Rattle.std.specs.Prelude.{◌↔◌}
 use Rattle.mn_model.specs.Name.{IsName}
-use Rattle.mn_model.specs.Problem.{Problem, declared_as, variable_in}
+use Rattle.mn_model.specs.Problem.{Problem, variable_named}
 use Rattle.mn_model.specs.declared.constraint.Con.{Con}
 use Rattle.mn_model.specs.declared.constraint.Con.TheVariants.{Eq, Diseq}
 use Rattle.mn_model.specs.declared.constraint.Term.TheVariants.{Var}
@@ -26,7 +26,7 @@ second_name p text v w more x rest y after named written named' written' pair =
 -- a name has one variable
 one_variable : (p : Problem) (x y : List ℕ) (v w : VarId) → x ≡ y → Names p x v → Names p y w → v ≡ w
 one_variable p x y v w same first second =
-    let both : Some v ≡ Some w = sym first.1 ∙ (ap (λ n. variable_in (declared_as p.decls n) []) same ∙ second.1) in cc
+    let both : Some v ≡ Some w = sym first.1 ∙ (ap (λ n. variable_named p n []) same ∙ second.1) in cc
 
 -- a text has one pair at its front
 one_pair : (p : Problem) (text : List ℕ) (v w v' w' : VarId) (more more' : List ℕ) → IsPair p text v w more → IsPair p text v' w' more' → (v ≡ v') × (w ≡ w') × (more ≡ more')

@@ -1,11 +1,11 @@
 -- What is answered where something may be refused.
-use Rattle.std.proofs.Common.{◌≡◌, ℕ, List, [], Option, None, Some, inl, inr, sym, subst}
+use Rattle.std.proofs.Common.{◌≡◌, ℕ, List, Option, None, Some, inl, inr, sym, subst}
 use Rattle.std.specs.Option.{MatchOption, IfSome, IfNone}
 use Rattle.std.specs.Prelude.{◌↔◌}
-use Rattle.mn_model.specs.Problem.{Problem}
+use Rattle.mn_model.specs.Problem.{Problem, nothing}
 use Rattle.mn_model.specs.declared.refusal.Refusal.{Refusal}
 use Rattle.mn_reader.specs.Left.{DeclaresText, Refuses}
-use Rattle.mn_reader.specs.Reads.{Reads, nothing}
+use Rattle.mn_reader.specs.Reads.{Reads}
 
 -- what refuses a thing refuses all that leads to it
 pub Refuses-weaker : (P Q : Type 0) (e : Refusal) → (Q → P) → Refuses P e → Refuses Q e
@@ -21,7 +21,6 @@ none_of None N M P f m = f m
 none_of (Some x) N M P f m = tt
 
 -- a text's declarations begin with an instance that has nothing
-pub begun : (text rest : List ℕ) (i r : Problem) → i.decls ≡ [] → i.cons ≡ [] → Reads text r ↔ DeclaresText nothing rest r → Reads text r ↔ DeclaresText i rest r
-begun text rest i r decls cons found =
-    let same : i ≡ nothing = λ k. record { decls = decls k; cons = cons k } in
+pub begun : (text rest : List ℕ) (i r : Problem) → i ≡ nothing → Reads text r ↔ DeclaresText nothing rest r → Reads text r ↔ DeclaresText i rest r
+begun text rest i r same found =
     (λ reads. subst (λ (p : Problem). DeclaresText p rest r) (sym same) (found.0 reads), λ d. found.1 (subst (λ (p : Problem). DeclaresText p rest r) same d))

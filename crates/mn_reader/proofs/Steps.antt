@@ -3,10 +3,10 @@ use Rattle.std.proofs.Common.{◌≡◌, ℕ, List, ◌∷◌, ◌++◌, codes, 
 use Rattle.std.specs.List.{flat_map}
 use Rattle.std.specs.Prelude.{◌↔◌}
 use Rattle.mn_model.specs.Name.{IsName}
-use Rattle.mn_model.specs.Problem.{Problem}
+use Rattle.mn_model.specs.Problem.{Problem, nothing}
 use Rattle.mn_reader.proofs.Cutting.{cut_once, one_head, Lacks-name}
 use Rattle.mn_reader.specs.Left.{DeclaresText, ConstrainsText, MayDeclare}
-use Rattle.mn_reader.specs.Reads.{Line, title, variables, bool, constraints, spelling, nothing, with_bool, Declares, Starts, Reads}
+use Rattle.mn_reader.specs.Reads.{Line, title, variables, bool, constraints, spelling, with_bool, Declares, Starts, Reads}
 
 -- a text begins with its title and the line of the variables
 started : (lines : List Line) (r : Problem) → Starts lines r → (others : List Line) × (lines ≡ title ∷ variables ∷ others) × Declares nothing others r

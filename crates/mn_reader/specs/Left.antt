@@ -1,12 +1,12 @@
 -- What is left of a text, on the way through it.
-use Rattle.std.specs.Prelude.{◌≡◌, ℕ, ◌<◌, ◌⊎◌, List, ◌++◌, None, codes}
+use Rattle.std.specs.Prelude.{◌≡◌, ℕ, ◌<◌, ◌⊎◌, List, ◌++◌, codes}
 use Rattle.std.specs.List.{AllByRecursion, flat_map}
-use Rattle.mn_model.specs.Problem.{Problem, declared_as, variable_count}
+use Rattle.mn_model.specs.Problem.{Problem, variable_count}
 use Rattle.mn_model.specs.declared.limits.TheConstants.{VARIABLES}
 use Rattle.mn_model.specs.declared.refusal.Refusal.{Refusal}
 use Rattle.mn_model.specs.declared.refusal.Refusal.TheVariants.{NoMemory, Unsupported}
 use Rattle.mn_model.specs.declared.variable.VarId.{VarId}
-use Rattle.mn_reader.specs.Reads.{Line, spelling, Names, Declares, Constrains}
+use Rattle.mn_reader.specs.Reads.{Line, spelling, IsFree, Names, Declares, Constrains}
 
 -- the byte doesn't stand in the list
 abbrev pub Lacks : ℕ → List ℕ → Type 0
@@ -18,7 +18,7 @@ Refuses possible e = (e ≡ NoMemory) ⊎ ((e ≡ Unsupported 0) × (possible �
 
 -- the name may be that of one more variable
 abbrev pub MayDeclare : Problem → List ℕ → Type 0
-MayDeclare p name = (declared_as p.decls name ≡ None) × (variable_count p.decls < VARIABLES)
+MayDeclare p name = IsFree p name × (variable_count p.decls < VARIABLES)
 
 -- from p on, with declarations to come, what is left leads to r
 pub record DeclaresText (p : Problem) (text : List ℕ) (r : Problem) : Type 0 where

@@ -3,7 +3,7 @@ use Rattle.std.specs.Prelude.{◌≡◌, ℕ, ◌<◌, pos, List, [], ◌∷◌,
 use Rattle.std.specs.List.{flat_map}
 use Rattle.mn_model.specs.Domain.{stretch}
 use Rattle.mn_model.specs.Name.{IsName}
-use Rattle.mn_model.specs.Problem.{Problem, declared_as, variable_count, variable_in}
+use Rattle.mn_model.specs.Problem.{Problem, aliased_as, declared_as, nothing, variable_count, variable_named}
 use Rattle.mn_model.specs.Variable.{variable}
 use Rattle.mn_model.specs.declared.constraint.Con.{Con}
 use Rattle.mn_model.specs.declared.constraint.Con.TheVariants.{Eq, Diseq}
@@ -32,10 +32,6 @@ spelling (eq x y) = codes "eq(" ++ x ++ codes "," ++ y ++ codes ")\n"
 spelling (diseq x y) = codes "diseq(" ++ x ++ codes "," ++ y ++ codes ")\n"
 spelling end = codes "**EOF**\n"
 
--- an instance that declares and asks nothing
-abbrev pub nothing : Problem
-nothing = record { decls = []; cons = [] }
-
 -- with one more variable of the values 0 and 1
 abbrev pub with_bool : Problem → List ℕ → Problem
 with_bool p name = record p {
@@ -48,7 +44,7 @@ with_con p c = record p { cons = p.cons ++ c ∷ [] }
 
 -- the name is that of the variable
 abbrev pub Names : Problem → List ℕ → VarId → Type 0
-Names p name v = IsName name × (variable_in (declared_as p.decls name) [] ≡ Some v)
+Names p name v = IsName name × (variable_named p name [] ≡ Some v)
 
 -- From p on, with constraints alone to come, the lines lead to the instance r.
 abbrev pub Constrains : Problem → List Line → Problem → Type 0
@@ -57,9 +53,13 @@ Constrains p (diseq x y ∷ lines) r = (v : VarId) × (w : VarId) × Names p x v
 Constrains p (end ∷ []) r = r ≡ p
 Constrains p _ r = ⊥
 
+-- nothing has the name yet
+abbrev pub IsFree : Problem → List ℕ → Type 0
+IsFree p name = (declared_as p.decls name ≡ None) × (aliased_as p.aliases name ≡ None)
+
 -- From p on, with declarations to come, the lines lead to the instance r. A name is declared once.
 abbrev pub Declares : Problem → List Line → Problem → Type 0
-Declares p (bool name ∷ lines) r = IsName name × (declared_as p.decls name ≡ None) × (variable_count p.decls < VARIABLES) × Declares (with_bool p name) lines r
+Declares p (bool name ∷ lines) r = IsName name × IsFree p name × (variable_count p.decls < VARIABLES) × Declares (with_bool p name) lines r
 Declares p (constraints ∷ lines) r = Constrains p lines r
 Declares p _ r = ⊥
 

@@ -1,10 +1,12 @@
 ghost use Rattle.std.specs.Prelude.{◌≡◌, ◌<◌, ◌≤◌, ◌↔◌, ℕ, List, length, codes, IsTrue, IfErr, IfNone, IfOk, IfSome, OnOk};
 ghost use Rattle.mn_model.specs.Name.{IsName};
-ghost use Rattle.mn_model.specs.Problem.{Problem, IsLawfulCon, domains_of, variable_count};
+ghost use Rattle.mn_model.specs.Lawful.{IsLawfulCon};
+ghost use Rattle.mn_model.specs.Parts.{cell_count};
+ghost use Rattle.mn_model.specs.Problem.{Problem, domains_of, nothing, variable_count};
 ghost use Rattle.mn_model.specs.Variable.{number_of};
 ghost use Rattle.mn_model.specs.declared.variable.VarId.{VarId};
 ghost use Rattle.mn_reader.specs.Left.{ConstrainsText, DeclaresText, IsPair, MayDeclare, Refuses};
-ghost use Rattle.mn_reader.specs.Reads.{Reads, nothing, with_bool, with_con};
+ghost use Rattle.mn_reader.specs.Reads.{Reads, with_bool, with_con};
 
 use super::line::{after, name_before};
 use mn_model::{
@@ -28,7 +30,10 @@ fn declare(alloc: Global, instance: &mut Instance, name: &str) -> Result<(), Ref
     ensures ok { OnOk result (instance.new ≡ with_bool instance.old name.now) }
     ensures err { IfErr result (Refuses (MayDeclare instance.old name.now)) }
 {
-    if instance.find(name).is_some() || instance.vars() >= VARIABLES {
+    if instance.find(name).is_some()
+        || instance.find_alias(name).is_some()
+        || instance.vars() >= VARIABLES
+    {
         return Err(Refusal::Unsupported(0));
     }
     let text = text_of(alloc, name)?;
@@ -88,7 +93,8 @@ fn pair<'a>(instance: &Instance, text: &'a [u8]) -> Option<(VarId, VarId, &'a [u
 fn constraint<'a>(instance: &Instance, text: &'a [u8]) -> Option<(Con, &'a [u8])>
     ensures found { IfSome result (λ found. (r : Problem) → ConstrainsText instance.now text.now r
         ↔ ((length instance.now.cons < CONSTRAINTS) × ConstrainsText (with_con instance.now found.0) found.1.now r)) }
-    ensures lawful { IfSome result (λ found. IsLawfulCon (domains_of instance.now.decls) found.0) }
+    ensures lawful { IfSome result (λ found. IsLawfulCon (domains_of instance.now.decls) instance.now.tuples found.0) }
+    ensures bare { IfSome result (λ found. cell_count found.0 ≡ 0) }
     ensures shorter { IfSome result (λ found. length found.1.now < length text.now) }
     ensures none { IfNone result ((r : Problem) → ConstrainsText instance.now text.now r → text.now ≡ codes "**EOF**\n") }
 {
@@ -119,6 +125,7 @@ pub fn constraints(instance: &mut Instance, text: &[u8]) -> Result<(), Refusal>
         if is_full(instance) {
             return Err(Refusal::Unsupported(0));
         }
+        instance.lawful();
         instance.add(con)?;
         rest = more;
     }
