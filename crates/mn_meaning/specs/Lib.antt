@@ -1,3 +1,4 @@
+pub mod Choices
 pub mod Families
 pub mod Laws
 pub mod Meaning

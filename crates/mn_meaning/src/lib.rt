@@ -9,4 +9,7 @@
 
 mod laws;
 
-pub use laws::assignments_are_all;
+pub use laws::{
+    assignments_are_all, lawful_problems_are_fit, negations_are_meant, negations_hold_where_not,
+    records_are_owed, search_order_is_whole, solutions_are_those_that_hold, without_an_order,
+};
