@@ -1,4 +1,5 @@
 pub mod Asks
 pub mod Cutting
+pub mod Plain
 pub mod Refusing
 pub mod Steps

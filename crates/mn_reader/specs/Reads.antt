@@ -71,3 +71,8 @@ Starts _ r = ⊥
 -- The text stands for the instance.
 abbrev pub Reads : List ℕ → Problem → Type 0
 Reads text r = (lines : List Line) × (text ≡ flat_map spelling lines) × Starts lines r
+
+-- The instance has no order of its own, and nothing is to be made large or small. So it is with all that these texts stand for.
+pub record IsPlain (p : Problem) : Type 0 where
+  pub unordered : p.order.vars ≡ []
+  pub aimless : p.goal ≡ None

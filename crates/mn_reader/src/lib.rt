@@ -12,7 +12,7 @@
 ghost use Rattle.std.specs.Prelude.{◌≡◌, ◌<◌, ◌≤◌, ◌⊎◌, ◌↔◌, length, IfErr, IfOk, IsOkAnd, Err};
 ghost use Rattle.mn_model.specs.Problem.{Problem};
 ghost use Rattle.mn_reader.specs.Left.{Refuses};
-ghost use Rattle.mn_reader.specs.Reads.{Reads};
+ghost use Rattle.mn_reader.specs.Reads.{IsPlain, Reads};
 
 mod line;
 mod sections;
@@ -26,6 +26,7 @@ pub fn read(alloc: Global, text: &[u8]) -> Result<Instance, Refusal>
     // What is read is what the text stands for, and no text stands for two instances.
     ensures reads { IfOk result (λ i. Reads text.now i) }
     ensures accepted { (p : Problem) → Reads text.now p → length text.now ≤ TEXT_BYTES → (result ≡ Err Refusal.NoMemory) ⊎ IsOkAnd result (λ i. i ≡ p) }
+    ensures plain { IfOk result IsPlain }
     // Each refusal, but for want of memory, comes exactly where it says.
     ensures too_long { (result ≡ Err (Refusal.Limit Which.Text TEXT_BYTES)) ↔ (TEXT_BYTES < length text.now) }
     ensures unsupported { result ≡ Err (Refusal.Unsupported 0) → (p : Problem) → Reads text.now p → ⊥ }
