@@ -3,9 +3,10 @@ use Rattle.std.proofs.Common.{◌≡◌, ℕ, zero, suc, ◌<◌, ◌≤◌, Boo
 use Rattle.std.proofs.lemmas.Bool.Decides.{nat_tests}
 use Rattle.std.specs.List.{AllByRecursion, flat_map}
 use Rattle.mn_model.specs.Domain.{IsValue}
-use Rattle.mn_model.specs.Problem.{IsLawfulDecl, domains_of, size_of_dims, variables_of}
-use Rattle.mn_model.specs.Solutions.{choices}
-use Rattle.mn_model.specs.declared.instance.Decl.{Decl}
+use Rattle.mn_model.specs.Lawful.{IsLawfulDecl}
+use Rattle.mn_model.specs.Problem.{domains_of, size_of_dims, variables_of}
+use Rattle.mn_meaning.specs.Choices.{choices}
+use Rattle.mn_model.specs.declared.declaration.Decl.{Decl}
 use Rattle.mn_driver.specs.Ahead.{ArePlaces, first_places, values_at, choices_behind, choices_from, carried, next_places}
 
 -- where there is a place in each domain, there is a first one

@@ -1,7 +1,7 @@
 -- What a run has told still holds once the output was flushed, or failed to be.
 use Rattle.std.proofs.Common.{◌≡◌, ℕ, ◌≤◌, ◌⊎◌, List, [], Option, IsSomeAnd, Some, None, append-nil, refl, sym, ap, subst, ◌∙◌, inl, inr, length}
 use Rattle.mn_model.specs.Problem.{Problem}
-use Rattle.mn_model.specs.Solutions.{listed}
+use Rattle.mn_meaning.specs.Solutions.{listed}
 use Rattle.mn_outside.specs.Content.{FileMap}
 use Rattle.mn_outside.specs.Faults.{HasRisen}
 use Rattle.mn_outside.specs.Laws.{HasRisen-before, HasRisen-after}

@@ -1,4 +1,3 @@
-pub mod Checked
 pub mod Turning
 pub mod Carrying
 pub mod Choices

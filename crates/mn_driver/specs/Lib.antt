@@ -7,6 +7,5 @@ pub mod Report
 pub mod Runs
 pub mod Standing
 pub mod Stops
-pub mod Within
 pub mod Words
 pub mod Written

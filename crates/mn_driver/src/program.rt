@@ -2,6 +2,7 @@ ghost use Rattle.std.specs.Prelude.{◌≡◌, ℕ, ◌≤◌, ◌⊎◌, ◌↔
 ghost use Rattle.std.specs.Option.{option_map};
 ghost use Rattle.mn_model.specs.Problem.{Problem};
 ghost use Rattle.mn_model.specs.declared.refusal.Refusal.{Refusal};
+ghost use Rattle.mn_reader.specs.Reads.{IsPlain};
 ghost use Rattle.mn_driver.specs.declared.status.Usage.{Usage};
 ghost use Rattle.mn_outside.specs.Faults.{HasRisen};
 ghost use Rattle.mn_driver.specs.Codes.{unflushed};
@@ -42,6 +43,7 @@ fn say<O: Sink>(out: &mut O, line: &[u8])
 
 /// Writes the report of an instance, and for want of memory the line of that fault behind what was written.
 fn solved<O: Sink>(alloc: Global, inst: &Instance, out: &mut O) -> Ended
+    requires { IsPlain inst.now }
     ensures solves { Solves (O.content out.old) (O.content out.new) (O.faults out.old) (O.faults out.new) inst.now result.status result.solutions }
     ensures nodes { result.nodes ≡ 0 }
     ensures kept { O.faults out.old ≤ O.faults out.new }
