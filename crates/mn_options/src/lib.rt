@@ -11,14 +11,13 @@ mod laws;
 mod options;
 mod rules;
 mod table;
-
-//mod tests;
+#[cfg(test)]
+mod tests;
 mod usage;
 mod words;
 
 pub use laws::table_is_unambiguous;
 pub use mn_model::Text;
 pub use options::{Options, parse};
-
 pub use table::{CommandOption, TABLE};
 pub use usage::Usage;
