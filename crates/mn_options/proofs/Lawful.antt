@@ -1,11 +1,9 @@
 -- What words that break no rule have in common.
-use Rattle.std.proofs.Common.{◌≡◌, ℕ, Bool, true, false, ◌||◌, List, [], ◌∷◌, ◌++◌, map, append-nil, append_assoc, Option, Some, None, IsSome, find, refl, subst, sym, ap, arith, rules, cond, chars, option_map, string_bytes}
-use Rattle.std.specs.List.{list_any}
+use Rattle.std.proofs.Common.{◌≡◌, ℕ, Bool, true, false, List, [], ◌∷◌, ◌++◌, map, append-nil, append_assoc, Option, Some, None, IsSome, refl, cond, chars, option_map}
 use Rattle.std.specs.Option.{option_or}
 use Rattle.mn_options.specs.Meant.{model_name}
 use Rattle.mn_options.specs.Rules.{broken_by, first_broken, first_broken_behind, is_model, names_model}
 use Rattle.mn_options.specs.Words.{word_of}
-use Rattle.mn_options.specs.declared.usage.Usage.{Usage}
 use Rattle.mn_options.specs.declared.usage.Usage.TheVariants.{NoModel}
 use Rattle.mn_options.specs.declared.words.Word.{Word}
 
