@@ -1,10 +1,10 @@
 -- The candidates among the first places.
-use Rattle.std.proofs.Common.{◌≡◌, ℕ, zero, suc, ◌+◌, ◌<◌, ◌≤◌, ◌==◌, Bool, true, false, cond, List, [], ◌∷◌, ◌++◌, append-nil, length, take, get_or, Option, Some, None, option_map, refl, sym, ap, ◌∙◌, subst, arith, not, IsNone, ◌↔◌}
+use Rattle.std.proofs.Common.{◌≡◌, ℕ, zero, suc, ◌+◌, ◌<◌, ◌≤◌, ◌==◌, Bool, true, false, cond, List, [], ◌∷◌, ◌++◌, append-nil, length, take, get_or, Option, Some, None, option_map, refl, ap, ◌∙◌, arith, not, IsNone, ◌↔◌}
 use Rattle.std.proofs.Math.Numerals.{add-one}
 use Rattle.std.proofs.lemmas.List.{take_all}
 use Rattle.std.proofs.lemmas.Bool.{eqb-true}
 use Rattle.std.specs.List.{AllByRecursion, list_any, position_from}
-use Rattle.mn_order.proofs.Scans.{AreWhole, is_unbeaten, one_more}
+use Rattle.mn_order.proofs.Scans.{AreWhole, one_more}
 use Rattle.mn_order.specs.Better.{better_of, better_of_two}
 use Rattle.mn_order.specs.Choose.{AreSizes, beats, candidates_from, choose, first_unbeaten}
 use Rattle.mn_order.specs.declared.choice.Choice.{Choice}

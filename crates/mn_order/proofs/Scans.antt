@@ -1,10 +1,10 @@
 -- What the best candidate so far becomes, where there is one more.
-use Rattle.std.proofs.Common.{◌≡◌, ℕ, zero, suc, ◌+◌, ◌<◌, ◌≤◌, ◌==◌, Bool, true, false, not, ◌||◌, cond, List, [], ◌∷◌, ◌++◌, length, take, get_or, find, Option, Some, None, option_map, refl, sym, ap, ◌∙◌, subst, arith}
+use Rattle.std.proofs.Common.{◌≡◌, ◌≤◌, Bool, true, false, not, ◌||◌, List, [], ◌∷◌, ◌++◌, find, Option, Some, None, refl, sym, ap, ◌∙◌}
 use Rattle.std.proofs.lemmas.List.Folds.{list_any-append}
 use Rattle.std.specs.List.{AllByRecursion, list_any}
 use Rattle.mn_order.proofs.Beaten.{none_beats_itself, beaten_beats_not, beats_more}
-use Rattle.mn_order.specs.Better.{better_of, better_of_two}
-use Rattle.mn_order.specs.Choose.{AreSizes, beats, candidates_from, first_unbeaten}
+use Rattle.mn_order.specs.Better.{better_of_two}
+use Rattle.mn_order.specs.Choose.{beats, first_unbeaten}
 use Rattle.mn_order.specs.declared.choice.Choice.{Choice}
 use Rattle.mn_order.specs.declared.scan.Candidate.{Candidate}
 
