@@ -8,11 +8,11 @@ use Rattle.mn_options.specs.declared.usage.Usage.TheVariants.{NoModel}
 use Rattle.mn_options.specs.declared.words.Word.{Word}
 
 -- neither is there where the first or else the second isn't
-neither : {X : Type 0} (a b : Option X) → option_or a b ≡ None → b ≡ None
+pub neither : {X : Type 0} (a b : Option X) → option_or a b ≡ None → b ≡ None
 neither None b e = e
 neither (Some x) b e = cc
 
-is_named : (named : Bool) → (cond named None (Some NoModel)) ≡ None → named ≡ true
+pub is_named : (named : Bool) → (cond named None (Some NoModel)) ≡ None → named ≡ true
 is_named true e = refl
 is_named false e = cc
 

@@ -1,3 +1,4 @@
-pub mod Words
-pub mod Rules
+pub mod Laws
 pub mod Meant
+pub mod Rules
+pub mod Words

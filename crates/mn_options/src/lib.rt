@@ -16,7 +16,7 @@ mod tests;
 mod usage;
 mod words;
 
-pub use laws::table_is_unambiguous;
+pub use laws::{lawful_words_break_no_rule, table_is_unambiguous};
 pub use mn_model::Text;
 pub use options::{Options, parse};
 pub use table::{CommandOption, TABLE};

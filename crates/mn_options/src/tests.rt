@@ -1,4 +1,4 @@
-use crate::{Options, Usage, parse, table_is_unambiguous};
+use crate::{Options, Usage, lawful_words_break_no_rule, parse, table_is_unambiguous};
 use std::alloc::{AllocError, Global};
 use std::test::Fail;
 
@@ -107,6 +107,7 @@ fn meets(alloc: Global, options: &Options, row: &Row) -> Result<bool, AllocError
 #[test]
 fn lawful_words_are_followed(rt: HostRuntime) -> Result<(), Fail> {
     table_is_unambiguous();
+    lawful_words_break_no_rule();
     for row in &ROWS {
         let words = words_of(rt.alloc(), row.words)?;
         match parse(rt.alloc(), &words) {
