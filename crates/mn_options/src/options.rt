@@ -1,6 +1,6 @@
-ghost use Rattle.std.specs.Prelude.{◌≡◌, ◌⊎◌, map, option_map, chars, string_bytes, find, None, Some, IsOk, IsErrOf, IsSome, IfOk, IfErr, IfSome, IsNone};
+ghost use Rattle.std.specs.Prelude.{◌≡◌, ◌⊎◌, map, option_map, chars, encode_utf8_all, string_bytes, None, Some, IsOk, IsErrOf, IsSome, IfOk, IfErr, IfSome, IsNone};
 ghost use Rattle.mn_options.specs.Meant.{AreOptions, model_name};
-ghost use Rattle.mn_options.specs.Rules.{first_broken, is_model};
+ghost use Rattle.mn_options.specs.Rules.{first_broken};
 ghost use Rattle.mn_options.specs.Words.{word_of};
 
 use crate::rules::{asks_for, first_broken};
@@ -45,7 +45,8 @@ fn model_name(words: &[String]) -> Option<&str>
 }
 
 fn text_of(alloc: Global, word: &str) -> Result<Text, AllocError>
-    ensures { IfOk result (λ text. text ≡ chars word.now) }
+    ensures chars { IfOk result (λ text. text ≡ chars word.now) }
+    ensures bytes { IfOk result (λ text. encode_utf8_all text ≡ word.now) }
 {
     let mut text = Text::new(alloc);
     for c in word.chars() {
@@ -55,7 +56,8 @@ fn text_of(alloc: Global, word: &str) -> Result<Text, AllocError>
 }
 
 fn model_text(alloc: Global, words: &[String]) -> Result<Option<Text>, AllocError>
-    ensures { IfOk result (λ model. model ≡ option_map chars (model_name (map string_bytes words.now))) }
+    ensures chars { IfOk result (λ model. model ≡ option_map chars (model_name (map string_bytes words.now))) }
+    ensures bytes { IfOk result (λ model. option_map encode_utf8_all model ≡ model_name (map string_bytes words.now)) }
 {
     match model_name(words) {
         Some(name) => Ok(Some(text_of(alloc, name)?)),
@@ -66,10 +68,16 @@ fn model_text(alloc: Global, words: &[String]) -> Result<Option<Text>, AllocErro
 /// What the words ask for, or the rule that they break first. The words are those behind the program's name.
 pub fn parse(alloc: Global, words: &Vec<String>) -> Result<Options, Usage>
     ensures ok { IfOk result (λ options. AreOptions (map string_bytes words.now.items) options) }
+
+    // A model is always named, and its characters are written by the bytes of its word.
     ensures named { IfOk result (λ options. IsSome options.model) }
+    ensures name { IfOk result (λ options. option_map encode_utf8_all options.model ≡ model_name (map string_bytes words.now.items)) }
+
+    // What comes tells of the words.
     ensures kept { IsOk result → first_broken (map string_bytes words.now.items) ≡ None }
     ensures err { IfErr result (λ rule. (first_broken (map string_bytes words.now.items) ≡ Some rule) ⊎ (rule ≡ Usage.NoMemory)) }
-    // The same from the side of the words.
+
+    // And the words tell what comes.
     ensures lawful { first_broken (map string_bytes words.now.items) ≡ None → IsOk result ⊎ IsErrOf result Usage.NoMemory }
     ensures broken { IfSome (first_broken (map string_bytes words.now.items)) (λ rule. IsErrOf result rule ⊎ IsErrOf result Usage.NoMemory) }
 {
