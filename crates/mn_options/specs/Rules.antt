@@ -10,6 +10,7 @@ use Rattle.mn_options.specs.declared.usage.Usage.TheVariants.{Unknown, Twice, No
 use Rattle.mn_options.specs.declared.words.Word.{Word}
 use Rattle.mn_options.specs.declared.words.Word.TheVariants.{Listed, Unlisted, Model}
 
+-- the two are one option
 abbrev pub same_option : CommandOption → CommandOption → Bool
 same_option FindAllSols FindAllSols = true
 same_option NoPrintSols NoPrintSols = true

@@ -5,7 +5,8 @@ use Rattle.mn_order.specs.declared.choice.Choice.{Choice}
 use Rattle.mn_order.specs.declared.choice.Choice.TheVariants.{Fixed, Smallest, Largest, Ratio}
 use Rattle.mn_order.specs.declared.scan.Candidate.{Candidate}
 
--- two lists of sizes, one of each variable: each set has a value, and none has more values now than were declared
+-- two lists of sizes, one of each variable: each set has a value, and none has more values now than were declared, which
+-- are fewer than 2 ^ 64
 abbrev pub AreSizes : List ℕ → List ℕ → Type 0
 AreSizes [] [] = Unit {0}
 AreSizes [] (whole ∷ declared) = ⊥

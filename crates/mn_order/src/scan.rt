@@ -1,4 +1,4 @@
-ghost use Rattle.std.specs.Prelude.{◌≡◌, ◌<◌, length, option_map};
+ghost use Rattle.std.specs.Prelude.{◌≡◌};
 ghost use Rattle.mn_order.specs.Choose.{AreSizes, beats, choose};
 ghost use Rattle.mn_order.specs.Better.{better_of};
 
@@ -77,7 +77,8 @@ pub fn largest(now: &[u64], declared: &[u64]) -> Option<usize>
     chosen(Choice::Largest, now, declared)
 }
 
-/// The place with the least part of its declared values left, of the sets of more than one value, and of several the first.
+/// The place with the least part of its declared values left, among the sets of more than one value, and of several the
+/// first.
 pub fn ratio(now: &[u64], declared: &[u64]) -> Option<usize>
     requires { AreSizes now.now declared.now }
     ensures { result ≡ choose Choice.Ratio now.now declared.now }
