@@ -1,0 +1,4 @@
+pub mod Laws
+pub mod Meant
+pub mod Rules
+pub mod Words

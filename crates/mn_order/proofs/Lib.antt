@@ -1,0 +1,3 @@
+pub mod Beaten
+pub mod Scans
+pub mod Places
