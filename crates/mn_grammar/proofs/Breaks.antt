@@ -1,0 +1,176 @@
+-- Lists of what is broken, and the first of them.
+use Rattle.std.proofs.Common.{◌≡◌, ◌⊎◌, ℕ, ◌+◌, ◌<◌, ◌≤◌, Bool, true, false, cond, ltb, eqb, ◌||◌, ◌&&◌, List, [], ◌∷◌, ◌++◌, get_or, length, Option, Some, None, refl, sym, ap, ap₂, ◌∙◌, subst, inl, inr, ⊎_elim, arith}
+use Rattle.std.proofs.lemmas.Bool.{cases_Bool, and_parts, or_cases, or_parts, and_cases, ltb-true, ltb-false, eqb-true, eqb-false}
+use Rattle.mn_grammar.specs.Kinds.{rank}
+use Rattle.mn_grammar.specs.Places.{Break, behind, Has}
+use Rattle.mn_grammar.specs.Lawful.{is_before, earlier, first}
+use Rattle.mn_grammar.specs.declared.Kind.{Kind}
+use Rattle.mn_grammar.specs.declared.Kind.TheVariants.{Lex, NumberRange, Unsupported, Syntax, Again, Name, EmptyDomain, Limit, Shape}
+use Rattle.mn_grammar.specs.declared.Limit.TheVariants.{Variables, Constraints, Cells, Nesting, Span, Vector}
+
+-- all kinds by rank
+abbrev ranked : List Kind
+ranked =
+    Lex ∷ NumberRange ∷ Unsupported ∷ Syntax ∷ Again ∷ Name ∷ EmptyDomain ∷ Limit Variables ∷ Limit Constraints
+    ∷ Limit Cells ∷ Limit Nesting ∷ Limit Span ∷ Limit Vector ∷ []
+
+of_rank : (k : Kind) → get_or ranked (rank k) Shape ≡ k
+of_rank Lex = refl
+of_rank NumberRange = refl
+of_rank Unsupported = refl
+of_rank Syntax = refl
+of_rank Again = refl
+of_rank Name = refl
+of_rank EmptyDomain = refl
+of_rank (Limit Variables) = refl
+of_rank (Limit Constraints) = refl
+of_rank (Limit Cells) = refl
+of_rank (Limit Nesting) = refl
+of_rank (Limit Span) = refl
+of_rank (Limit Vector) = refl
+of_rank Shape = refl
+
+-- two kinds of one rank are one
+pub same_kind : (j k : Kind) → rank j ≡ rank k → j ≡ k
+same_kind j k e = sym (of_rank j) ∙ ap (λ n. get_or ranked n Shape) e ∙ of_rank k
+
+-- c doesn't come before b
+abbrev pub NotBefore : Break → ℕ → Kind → Type 0
+NotBefore b place kind = (b.0 < place) ⊎ ((b.0 ≡ place) × (rank b.1 ≤ rank kind))
+
+-- b is the first of the list, where it has one
+abbrev pub IsFirst : List Break → Option Break → Type 0
+IsFirst bs None = bs ≡ []
+IsFirst bs (Some b) = Has bs b.0 b.1 × ((place : ℕ) (kind : Kind) → Has bs place kind → NotBefore b place kind)
+
+before_at : (c b : Break) → is_before c b ≡ true → NotBefore c b.0 b.1
+before_at c b e =
+    ⊎_elim
+    (λ less. inl (ltb-true c.0 b.0 less))
+    (λ same. inr (eqb-true c.0 b.0 (and_parts _ _ same).0, let r = ltb-true (rank c.1) (rank b.1) (and_parts _ _ same).1 in omega arith))
+    (or_cases (ltb c.0 b.0) _ e)
+
+not_before_at : (c b : Break) → is_before c b ≡ false → NotBefore b c.0 c.1
+not_before_at c b e =
+    let parts = or_parts (ltb c.0 b.0) _ e in
+    let above = ltb-false c.0 b.0 parts.0 in
+    ⊎_elim
+    (λ apart. let ne = eqb-false c.0 b.0 apart in inl (omega arith))
+    (λ above_rank. let r = ltb-false (rank c.1) (rank b.1) above_rank in
+        ⊎_elim (λ (less : b.0 < c.0). inl less) (λ (same : b.0 ≡ c.0). inr (same, r)) (split b.0 c.0 above))
+    (and_cases (eqb c.0 b.0) _ parts.1)
+  where
+    split : (m n : ℕ) → m ≤ n → (m < n) ⊎ (m ≡ n)
+    split m n h = ⊎_elim (λ e. inr (eqb-true m n e)) (λ e. let ne = eqb-false m n e in inl (omega arith)) (cases_Bool (eqb m n))
+
+not_before_trans : (a b : Break) (place : ℕ) (kind : Kind) → NotBefore a b.0 b.1 → NotBefore b place kind → NotBefore a place kind
+not_before_trans a b place kind (inl x) (inl y) = inl (omega arith)
+not_before_trans a b place kind (inl x) (inr y) = let e = y.0 in inl (omega arith)
+not_before_trans a b place kind (inr x) (inl y) = let e = x.0 in inl (omega arith)
+not_before_trans a b place kind (inr x) (inr y) = let e = x.0 in let f = y.0 in let g = x.1 in let h = y.1 in inr (omega arith, omega arith)
+
+earlier_is : (b : Break) (bs : List Break) (o : Option Break) → IsFirst bs o → IsFirst (b ∷ bs) (Some (earlier b o))
+earlier_is b bs None none = (
+  inl (refl, refl),
+  λ place kind has. ⊎_elim (λ here. inr (here.0, let e = ap rank here.1 in omega arith)) (λ later. absurd (subst (λ l. Has l place kind) none later)) has,
+)
+earlier_is b bs (Some c) is =
+    ⊎_elim
+    (λ before. subst (λ d. IsFirst (b ∷ bs) (Some d)) (sym (ap (λ x. cond x c b) before)) (
+      inr is.0,
+      λ place kind has. ⊎_elim (λ here. subst (λ k. NotBefore c place k) here.1 (subst (λ p. NotBefore c p b.1) here.0 (before_at c b before))) (λ later. is.1 place kind later) has,
+    ))
+    (λ not_before. subst (λ d. IsFirst (b ∷ bs) (Some d)) (sym (ap (λ x. cond x c b) not_before)) (
+      inl (refl, refl),
+      λ place kind has. ⊎_elim (λ here. inr (here.0, let e = ap rank here.1 in omega arith)) (λ later. not_before_trans b c place kind (not_before_at c b not_before) (is.1 place kind later)) has,
+    ))
+    (cases_Bool (is_before c b))
+
+pub first_is : (bs : List Break) → IsFirst bs (first bs)
+first_is [] = refl
+first_is (b ∷ bs) = earlier_is b bs (first bs) (first_is bs)
+
+both_first : (a b : Break) → NotBefore a b.0 b.1 → NotBefore b a.0 a.1 → a ≡ b
+both_first a b (inl x) (inl y) = absurd (omega arith)
+both_first a b (inl x) (inr y) = let e = y.0 in absurd (omega arith)
+both_first a b (inr x) (inl y) = let e = x.0 in absurd (omega arith)
+both_first a b (inr x) (inr y) =
+    let same : a.1 ≡ b.1 = same_kind a.1 b.1 (let r = x.1 in let q = y.1 in omega arith) in
+    λ i. (x.0 i, same i)
+
+pub first_unique : (bs : List Break) (o p : Option Break) → IsFirst bs o → IsFirst bs p → o ≡ p
+first_unique bs None None a b = refl
+first_unique bs None (Some c) a b = absurd (subst (λ l. Has l c.0 c.1) a b.0)
+first_unique bs (Some c) None a b = absurd (subst (λ l. Has l c.0 c.1) b a.0)
+first_unique bs (Some c) (Some d) a b = ap (λ x. Some x) (both_first c d (a.1 d.0 d.1 b.0) (b.1 c.0 c.1 a.0))
+
+-- what is broken in one of two lists, or behind n tokens
+pub has_front : (bs cs : List Break) (place : ℕ) (kind : Kind) → Has bs place kind → Has (bs ++ cs) place kind
+has_front [] cs place kind has = absurd has
+has_front (b ∷ bs) cs place kind (inl here) = inl here
+has_front (b ∷ bs) cs place kind (inr later) = inr (has_front bs cs place kind later)
+
+pub has_back : (bs cs : List Break) (place : ℕ) (kind : Kind) → Has cs place kind → Has (bs ++ cs) place kind
+has_back [] cs place kind has = has
+has_back (b ∷ bs) cs place kind has = inr (has_back bs cs place kind has)
+
+pub has_either : (bs cs : List Break) (place : ℕ) (kind : Kind) → Has (bs ++ cs) place kind → Has bs place kind ⊎ Has cs place kind
+has_either [] cs place kind has = inr has
+has_either (b ∷ bs) cs place kind (inl here) = inl (inl here)
+has_either (b ∷ bs) cs place kind (inr later) = ⊎_elim (λ x. inl (inr x)) (λ x. inr x) (has_either bs cs place kind later)
+
+pub has_behind : (n : ℕ) (bs : List Break) (place : ℕ) (kind : Kind) → Has bs place kind → Has (behind n bs) (n + place) kind
+has_behind n [] place kind has = absurd has
+has_behind n (b ∷ bs) place kind (inl here) = inl (ap (λ x. n + x) here.0, here.1)
+has_behind n (b ∷ bs) place kind (inr later) = inr (has_behind n bs place kind later)
+
+pub behind_has : (n : ℕ) (bs : List Break) (place : ℕ) (kind : Kind) → Has (behind n bs) place kind → (j : ℕ) × (n + j ≡ place) × Has bs j kind
+behind_has n [] place kind has = absurd has
+behind_has n (b ∷ bs) place kind (inl here) = (b.0, here.0, inl (refl, here.1))
+behind_has n (b ∷ bs) place kind (inr later) = let r = behind_has n bs place kind later in (r.0, r.1, inr r.2)
+
+-- the first of two lists of which the second is behind the first one's tokens
+pub first_front : (n : ℕ) (bs cs : List Break) (b : Break) → ((place : ℕ) (kind : Kind) → Has bs place kind → place < n) → first bs ≡ Some b → first (bs ++ behind n cs) ≡ Some b
+first_front n bs cs b within e =
+    let is : IsFirst bs (Some b) = subst (λ o. IsFirst bs o) e (first_is bs) in
+    first_unique (bs ++ behind n cs) _ (Some b) (first_is (bs ++ behind n cs)) (
+      has_front bs (behind n cs) b.0 b.1 is.0,
+      λ place kind has. ⊎_elim
+          (λ front. is.1 place kind front)
+          (λ back. let r = behind_has n cs place kind back in let p = r.1 in let w = within b.0 b.1 is.0 in inl (omega arith))
+          (has_either bs (behind n cs) place kind has),
+    )
+
+abbrev pub moved : ℕ → Option Break → Option Break
+moved n None = None
+moved n (Some b) = Some (n + b.0, b.1)
+
+first_moved : (n : ℕ) (bs : List Break) (o : Option Break) → IsFirst bs o → IsFirst (behind n bs) (moved n o)
+first_moved n bs None none = ap (behind n) none
+first_moved n bs (Some b) is = (
+  has_behind n bs b.0 b.1 is.0,
+  λ place kind has. let r = behind_has n bs place kind has in let p = r.1 in
+      ⊎_elim (λ less. inl (omega arith)) (λ same. let e = same.0 in inr (omega arith, same.1)) (is.1 r.0 kind r.2),
+)
+
+pub first_behind : (n : ℕ) (bs : List Break) → first (behind n bs) ≡ moved n (first bs)
+first_behind n bs = first_unique (behind n bs) _ _ (first_is (behind n bs)) (first_moved n bs (first bs) (first_is bs))
+
+pub none_first : (bs : List Break) → first bs ≡ None → bs ≡ []
+none_first bs e = subst (λ o. IsFirst bs o) e (first_is bs)
+
+pub behind_behind : (m n : ℕ) (bs : List Break) → behind m (behind n bs) ≡ behind (m + n) bs
+behind_behind m n [] = refl
+behind_behind m n (b ∷ bs) =
+    let place : m + (n + b.0) ≡ (m + n) + b.0 = omega arith in
+    λ i. (place i, b.1) ∷ behind_behind m n bs i
+
+pub behind_append : (n : ℕ) (bs cs : List Break) → behind n (bs ++ cs) ≡ behind n bs ++ behind n cs
+behind_append n [] cs = refl
+behind_append n (b ∷ bs) cs = ap (λ l. (n + b.0, b.1) ∷ l) (behind_append n bs cs)
+
+pub behind_none : (bs : List Break) → behind 0 bs ≡ bs
+behind_none [] = refl
+behind_none (b ∷ bs) =
+    let place : 0 + b.0 ≡ b.0 = omega arith in
+    λ i. (place i, b.1) ∷ behind_none bs i

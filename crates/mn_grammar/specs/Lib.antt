@@ -1,0 +1,5 @@
+pub mod Tokens
+pub mod Kinds
+pub mod Places
+pub mod Reading
+pub mod Lawful

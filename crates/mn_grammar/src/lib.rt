@@ -1,0 +1,52 @@
+//! The theory of readers that accept exactly a language, and refuse exactly at the right token with
+//! the right kind.
+//!
+//! A language is given by trees, their spelling as tokens, and the conditions that a tree breaks, each
+//! at a token. `IsText` says which lists of tokens are a text, `IsRefusedAt` at which token and why a
+//! list is refused. Readers are built of a few parts, and each part keeps the law of a reader
+//! (`Lawful`): so a reader for a whole language is lawful by its parts, and what is lawful is exact.
+//! The crates above state the language and cite the lemmas of `proofs/`.
+//!
+//! The crate stands on `mn_lexer`, whose tokens it reads.
+#![tactic(auto)]
+
+/// The limits that a list of tokens can pass.
+#[derive(Clone, Copy, Debug, PartialEq, Eq)]
+pub enum Limit {
+    Variables,
+    Constraints,
+    Cells,
+    Nesting,
+    Span,
+    Vector,
+}
+
+/// Why a list of tokens is refused.
+#[derive(Clone, Copy, Debug, PartialEq, Eq)]
+pub enum Kind {
+    /// No token begins behind the list.
+    Lex,
+    /// A number past the limit stands behind the list.
+    NumberRange,
+    /// A word, head or number that isn't known where only known ones may stand.
+    Unsupported,
+    /// No text begins so.
+    Syntax,
+    /// An item that may stand once and stands again. In public it is called `Unsupported`.
+    Again,
+    /// A name that is unknown, or that is declared a second time.
+    Name,
+    /// A domain without a value.
+    EmptyDomain,
+    /// A limit is passed.
+    Limit(Limit),
+    /// Every other condition.
+    Shape,
+}
+
+/// Where and why a reader stopped: how many tokens were left, the refused one among them, and the kind.
+#[derive(Clone, Copy, Debug, PartialEq, Eq)]
+pub struct Fault {
+    pub left: usize,
+    pub kind: Kind,
+}
