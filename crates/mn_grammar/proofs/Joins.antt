@@ -102,7 +102,7 @@ module _ {X V W : Type 0} {Y : X → Type 0} (a : Spec X V) (b : (x : X) → Spe
   }
 
   -- a tree of both is read, where the first is and, unless it breaks something, the second
-  complete_pair : (ra : Reader V) (rb : V → Reader W) (x : X) (y : Y x) (rest : List Terminal) → Sound a → ra (a.spell x ++ ((b x).spell y ++ rest)) ≡ answer_of a x ((b x).spell y ++ rest) → (a.breaks x ≡ [] → rb (a.value x) ((b x).spell y ++ rest) ≡ answer_of (b x) y rest) → then_read ra rb (s.spell (x, y) ++ rest) ≡ answer_of s (x, y) rest
+  pub complete_pair : (ra : Reader V) (rb : V → Reader W) (x : X) (y : Y x) (rest : List Terminal) → Sound a → ra (a.spell x ++ ((b x).spell y ++ rest)) ≡ answer_of a x ((b x).spell y ++ rest) → (a.breaks x ≡ [] → rb (a.value x) ((b x).spell y ++ rest) ≡ answer_of (b x) y rest) → then_read ra rb (s.spell (x, y) ++ rest) ≡ answer_of s (x, y) rest
   complete_pair ra rb x y rest sound ea eb =
       ap (λ l. go_on (ra l) rb) (append_assoc (a.spell x) ((b x).spell y) rest)
       ∙ ap (λ r. go_on r rb) ea
