@@ -6,3 +6,4 @@ pub mod Views
 pub mod Refusals
 pub mod Choices
 pub mod Loops
+pub mod Exact

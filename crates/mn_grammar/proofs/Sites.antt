@@ -38,7 +38,7 @@ IsSite-wider free g f fits is = (λ t e. or_from (g t) (f t) (fits t e) (is.0 t 
 IsSite-wider fixed g f fits is = ((or_from _ _ fits.0 is.0.0, or_from _ _ fits.1 is.0.1), (is.1.0, is.1.1, or_right (g is.1.0) (f is.1.0) is.1.2))
 IsSite-wider mixed g f fits is = ((is.0.0, is.0.1, or_right (g is.0.0) (f is.0.0) is.0.2), open_wider f g is.1)
 
-head_no_mark : (t : Terminal) → is_head t ≡ true → is_mark t ≡ false
+pub head_no_mark : (t : Terminal) → is_head t ≡ true → is_mark t ≡ false
 head_no_mark (head bs) e = refl
 head_no_mark (word bs) e = cc
 head_no_mark (number n) e = cc

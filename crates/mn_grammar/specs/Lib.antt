@@ -3,3 +3,4 @@ pub mod Kinds
 pub mod Places
 pub mod Reading
 pub mod Lawful
+pub mod Laws

@@ -109,9 +109,13 @@ finished (Err e) = Err e
 finished (Ok (v, [])) = Ok v
 finished (Ok (v, t ∷ ts)) = Err (fault_at (t ∷ ts) Syntax)
 
--- at the list's end the kind is that of what ended it
+-- where no token is left, the kind is that of what ended the list
+abbrev pub kind_named : Option LexFault → ℕ → Kind → Kind
+kind_named stop zero kind = kind_at_end stop
+kind_named stop (suc left) kind = kind
+
 abbrev pub renamed : Option LexFault → Fault → Fault
-renamed stop e = record { left = e.left; kind = if e.left == 0 then kind_at_end stop else e.kind }
+renamed stop e = record { left = e.left; kind = kind_named stop e.left e.kind }
 
 abbrev pub named : {V : Type 0} → Option LexFault → Result V Fault → Result V Fault
 named stop (Ok v) = Ok v
