@@ -8,7 +8,7 @@ use Rattle.mn_grammar.specs.Kinds.{rank, is_condition, kind_at_end}
 use Rattle.mn_grammar.specs.Places.{Break, Has, Begins, IsFine, WantsName, WantsNumber, IsStrange, IsOther, IsUnsupported, IsKind, IsBrokenBy, Why, ended, grammar, condition, IsRefusedAt, IsText}
 use Rattle.mn_grammar.specs.Reading.{Answer, Reader, Site, marks_only, free, fixed, mixed, refused, fault_at, kind_at, finished, renamed, named, whole}
 use Rattle.mn_grammar.specs.Lawful.{Spec, IsOpen, IsClosed, IsSite, Lacks, a_name, a_number, first, answered, answer_of, Sound, IsRead, IsLeft, IsBroken, Said, Complete, Lawful}
-use Rattle.mn_grammar.specs.Laws.{Reads, Refuses, IsVerdict, IsWhole, IsExact, OneRefusal, NoTextRefused, LawfulIsExact, SomeVerdict, OneVerdict}
+use Rattle.mn_grammar.specs.Laws.{Reads, Refuses, IsVerdict, IsWhole, IsExact}
 use Rattle.mn_grammar.proofs.Breaks.{IsFirst, first_is, same_kind, NotBefore}
 use Rattle.mn_grammar.proofs.Sites.{head_no_mark}
 use Rattle.mn_grammar.proofs.Refusals.{same_fault, ok_no_fault, read_alone, none_begins, none_ends}
@@ -338,19 +338,3 @@ module _ {X V : Type 0} (s : Spec X V) (stop : Option LexFault) (read : Reader V
   one_verdict ts (Ok v) (Err e) a b = absurd (no_text_refused s.spell s.breaks stop ts a.0 e.0 e.1 a.1 b)
   one_verdict ts (Err e) (Ok v) a b = absurd (no_text_refused s.spell s.breaks stop ts b.0 e.0 e.1 b.1 a)
   one_verdict ts (Err e) (Err f) a b = let one = one_refusal s.spell s.breaks stop ts e.0 f.0 e.1 f.1 a b in λ i. Err (one.0 i, one.1 i)
-
--- the laws
-pub OneRefusal_holds : (X : Type 0) → OneRefusal X
-OneRefusal_holds X = one_refusal
-
-pub NoTextRefused_holds : (X : Type 0) → NoTextRefused X
-NoTextRefused_holds X = no_text_refused
-
-pub LawfulIsExact_holds : (X V : Type 0) → LawfulIsExact X V
-LawfulIsExact_holds X V = exact
-
-pub SomeVerdict_holds : (X V : Type 0) → SomeVerdict X V
-SomeVerdict_holds X V = some_verdict
-
-pub OneVerdict_holds : (X V : Type 0) → OneVerdict X V
-OneVerdict_holds X V = one_verdict

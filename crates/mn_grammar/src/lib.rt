@@ -10,6 +10,8 @@
 //! The crate stands on `mn_lexer`, whose tokens it reads.
 #![tactic(auto)]
 
+ghost use Rattle.mn_grammar.specs.Laws.{OneRefusal, NoTextRefused, LawfulIsExact, SomeVerdict, OneVerdict};
+
 /// The limits that a list of tokens can pass.
 #[derive(Clone, Copy, Debug, PartialEq, Eq)]
 pub enum Limit {
@@ -50,3 +52,23 @@ pub struct Fault {
     pub left: usize,
     pub kind: Kind,
 }
+
+/// A law of every language whose trees are of the type `X`: a list of tokens is refused at one place
+/// and with one kind, and no text is refused.
+pub fn one_refusal<X>()
+    ensures one { OneRefusal X }
+    ensures no_text { NoTextRefused X }
+{}
+
+/// A law of every lawful reader of whole texts, whose trees are of the type `X` and stand for values
+/// of the type `V`: it answers the values of the texts, and the refusals of all other lists.
+pub fn lawful_is_exact<X, V>()
+    ensures { LawfulIsExact X V }
+{}
+
+/// So where a language has a lawful reader, each list of tokens has a verdict, and only one: the value
+/// that it stands for, or a place and a kind.
+pub fn one_verdict<X, V>()
+    ensures some { SomeVerdict X V }
+    ensures one { OneVerdict X V }
+{}
