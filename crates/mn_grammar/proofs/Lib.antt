@@ -1,9 +1,11 @@
 pub mod Breaks
 pub mod Sites
 pub mod Leaves
+pub mod Marks
 pub mod Joins
 pub mod Views
 pub mod Refusals
 pub mod Choices
 pub mod Loops
+pub mod Items
 pub mod Exact

@@ -4,3 +4,4 @@ pub mod Places
 pub mod Reading
 pub mod Lawful
 pub mod Laws
+pub mod Lists

@@ -1,0 +1,220 @@
+-- Bracketed lists of entries that are read lawfully.
+use Rattle.std.proofs.Common.{◌≡◌, ◌⊎◌, ℕ, suc, ◌+◌, Bool, true, false, ◌||◌, ◌&&◌, List, [], ◌∷◌, ◌++◌, length, Option, Some, None, refl, sym, ap, ap₂, ◌∙◌, subst, inl, inr, arith, append_assoc, length-append}
+use Rattle.mn_lexer.specs.Terminals.{Terminal, mark}
+use Rattle.mn_lexer.specs.declared.marks.Mark.{Mark}
+use Rattle.mn_lexer.specs.declared.marks.Mark.TheVariants.{Comma}
+use Rattle.mn_grammar.specs.Tokens.{is_the_mark}
+use Rattle.mn_grammar.specs.Kinds.{is_condition}
+use Rattle.mn_grammar.specs.Places.{Break, on, behind}
+use Rattle.mn_grammar.specs.Reading.{Reader, Site, marks_only, Turn, goes_on, is_done, then_read, ret, or_else, loop, mark_at, end_at}
+use Rattle.mn_grammar.specs.Lawful.{Spec, OnlyMarks, Fits, Lawful}
+use Rattle.mn_grammar.specs.Lists.{Items, final, also, spell_items, spell_maybe, Judge, breaks_items, value_items, breaks_maybe, value_maybe, turn_at, items_at, maybe_at}
+use Rattle.mn_grammar.proofs.Breaks.{behind_append, behind_behind}
+use Rattle.mn_grammar.proofs.Sites.{is_nil, both_nil, Fits-marks, Fits-nothing}
+use Rattle.mn_grammar.proofs.Leaves.{nothing, Lawful-ret}
+use Rattle.mn_grammar.proofs.Marks.{the_mark, is_itself, is_no_other, a_mark, Lawful-mark, end_token, an_end, Lawful-end}
+use Rattle.mn_grammar.proofs.Joins.{joined, Join, Lawful-then}
+use Rattle.mn_grammar.proofs.Choices.{either, Choice, Lawful-or}
+use Rattle.mn_grammar.proofs.Views.{IsView, Lawful-view}
+use Rattle.mn_grammar.proofs.Loops.{Turns, last, more, spell_turns, breaks_turns, value_turns, blocks_turns, turns, Loop, Lawful-loop}
+use Rattle.mn_grammar.specs.declared.Kind.{Kind}
+
+-- an empty list adds nothing
+nothing_on : (b : Bool) → ((b && false) || false) ≡ false
+nothing_on true = refl
+nothing_on false = refl
+
+-- The list is closed by `shut`; j judges the entries; `blocks`, `start` and `some` complete an entry's trees.
+module _ {A S V : Type 0} (shut : Mark) (j : Judge A S V) (blocks : A → Terminal → Bool) (start : Site) (some : A) where
+  -- the trees of an entry
+  abbrev pub entry_spec : S → Spec A V
+  entry_spec s = record { spell = j.spell; breaks = j.breaks s; value = j.value s; blocks = blocks; start = start; any = some }
+
+  -- What the entries have to show: they have tokens; only marks go on with one, and neither `,` nor the closing mark;
+  -- and the conditions on those have kinds of conditions.
+  pub record Entries : Type 0 where
+    pub other : is_the_mark Comma (mark shut) ≡ false
+    pub solid : (a : A) → j.spell a ≡ [] → ⊥
+    pub marks : (a : A) → OnlyMarks (blocks a)
+    pub no_comma : (a : A) → blocks a (mark Comma) ≡ false
+    pub no_shut : (a : A) → blocks a (mark shut) ≡ false
+    pub comma_kinds : (s : S) (v : V) (kind : Kind) → j.comma s v ≡ Some kind → is_condition kind ≡ true
+    pub close_kinds : (s : S) (v : V) (kind : Kind) → j.close s v ≡ Some kind → is_condition kind ≡ true
+
+module _ {A S V R : Type 0} (shut : Mark) (j : Judge A S V) (blocks : A → Terminal → Bool) (start : Site) (some : A) (result : S → V → R) where
+  -- the trees of a list
+  abbrev pub items_spec : S → Spec (Items A) R
+  items_spec s = record {
+    spell = spell_items shut j.spell;
+    breaks = λ l. breaks_items j l s;
+    value = λ l. value_items j result l s;
+    blocks = λ l t. false;
+    start = start;
+    any = final some;
+  }
+
+  module _ (are : Entries shut j blocks start some) where
+    abbrev entry : S → Spec A V
+    entry s = entry_spec shut j blocks start some s
+
+    abbrev end_of : (s : S) → A → Spec Bool (Turn S R)
+    end_of s a = let v = j.value s a in an_end shut (j.comma s v) (j.close s v) (j.next s v) (result s v)
+
+    end_apart : (a : A) (x : Bool) (t : Terminal) (q : List Terminal) → end_token shut x ∷ [] ≡ t ∷ q → blocks a t ≡ false
+    end_apart a true t q e = let same : mark Comma ≡ t = cc in subst (λ u. blocks a u ≡ false) same (are.no_comma a)
+    end_apart a false t q e = let same : mark shut ≡ t = cc in subst (λ u. blocks a u ≡ false) same (are.no_shut a)
+
+    end_join : (s : S) → Join (entry s) (end_of s)
+    end_join s = record {
+      apart = λ a x t q e. end_apart a x t q e;
+      fits = λ a. are.marks a;
+      starts = λ a none. absurd (are.solid a none);
+    }
+
+    -- an entry and its end: the list goes on, or is closed
+    abbrev spell_turn : A ⊎ A → List Terminal
+    spell_turn (inl a) = j.spell a ++ mark Comma ∷ []
+    spell_turn (inr a) = j.spell a ++ mark shut ∷ []
+
+    abbrev breaks_turn : S → A ⊎ A → List Break
+    breaks_turn s (inl a) = j.breaks s a ++ behind (length (j.spell a)) (on (j.comma s (j.value s a)))
+    breaks_turn s (inr a) = j.breaks s a ++ behind (length (j.spell a)) (on (j.close s (j.value s a)))
+
+    abbrev value_turn : S → A ⊎ A → Turn S R
+    value_turn s (inl a) = goes_on (j.next s (j.value s a))
+    value_turn s (inr a) = is_done (result s (j.value s a))
+
+    abbrev turn : S → Spec (A ⊎ A) (Turn S R)
+    turn s = record {
+      spell = spell_turn;
+      breaks = breaks_turn s;
+      value = value_turn s;
+      blocks = λ x t. false;
+      start = start;
+      any = inr some;
+    }
+
+    abbrev turn_onto : A → Bool → A ⊎ A
+    turn_onto a true = inl a
+    turn_onto a false = inr a
+
+    abbrev turn_back : A ⊎ A → A × Bool
+    turn_back (inl a) = (a, true)
+    turn_back (inr a) = (a, false)
+
+    turn_again : (x : A ⊎ A) → turn_onto (turn_back x).0 (turn_back x).1 ≡ x
+    turn_again (inl a) = refl
+    turn_again (inr a) = refl
+
+    turn_spell : (a : A) (b : Bool) → spell_turn (turn_onto a b) ≡ j.spell a ++ end_token shut b ∷ []
+    turn_spell a true = refl
+    turn_spell a false = refl
+
+    turn_breaks : (s : S) (a : A) (b : Bool) → breaks_turn s (turn_onto a b) ≡ (joined (entry s) (end_of s)).breaks (a, b)
+    turn_breaks s a true = refl
+    turn_breaks s a false = refl
+
+    turn_value : (s : S) (a : A) (b : Bool) → value_turn s (turn_onto a b) ≡ (joined (entry s) (end_of s)).value (a, b)
+    turn_value s a true = refl
+    turn_value s a false = refl
+
+    turn_view : (s : S) → IsView (joined (entry s) (end_of s)) (turn s)
+    turn_view s = record {
+      onto = λ p. turn_onto p.0 p.1;
+      back = turn_back;
+      again = turn_again;
+      spell = λ p. turn_spell p.0 p.1;
+      breaks = λ p. turn_breaks s p.0 p.1;
+      value = λ p. turn_value s p.0 p.1;
+      blocks = λ p t. sym (nothing_on (blocks p.0 t));
+      start = refl;
+    }
+
+    abbrev next_of : S → A → S
+    next_of s a = j.next s (j.value s a)
+
+    abbrev result_of : S → A → R
+    result_of s a = result s (j.value s a)
+
+    turn_grows : (a : A) → j.spell a ++ mark Comma ∷ [] ≡ [] → ⊥
+    turn_grows a none = are.solid a (both_nil (j.spell a) (mark Comma ∷ []) none).0
+
+    is_loop : Loop turn next_of result_of some
+    is_loop = record {
+      goes = λ s a. refl;
+      ends = λ s a. refl;
+      grows = λ s a none. turn_grows a none;
+      apart = λ s a gs t q e. refl;
+      fits = λ s a. Fits-nothing start;
+      fits_last = λ s a. Fits-nothing start;
+    }
+
+    abbrev onto : Turns A A → Items A
+    onto (last a) = final a
+    onto (more a gs) = also a (onto gs)
+
+    abbrev back : Items A → Turns A A
+    back (final a) = last a
+    back (also a l) = more a (back l)
+
+    again : (l : Items A) → onto (back l) ≡ l
+    again (final a) = refl
+    again (also a l) = ap (λ r. also a r) (again l)
+
+    abbrev looped : S → Spec (Turns A A) R
+    looped s = turns turn next_of result_of some s
+
+    view_spell : (gs : Turns A A) (s : S) → spell_items shut j.spell (onto gs) ≡ (looped s).spell gs
+    view_spell (last a) s = refl
+    view_spell (more a gs) s =
+        ap (λ l. j.spell a ++ mark Comma ∷ l) (view_spell gs (next_of s a))
+        ∙ sym (append_assoc (j.spell a) (mark Comma ∷ []) ((looped (next_of s a)).spell gs))
+
+    view_breaks : (gs : Turns A A) (s : S) → breaks_items j (onto gs) s ≡ (looped s).breaks gs
+    view_breaks (last a) s = refl
+    view_breaks (more a gs) s =
+        let n = length (j.spell a) in
+        let here = on (j.comma s (j.value s a)) in
+        let rest = breaks_items j (onto gs) (next_of s a) in
+        let size : n + 1 ≡ length (j.spell a ++ mark Comma ∷ []) = sym (length-append (j.spell a) (mark Comma ∷ [])) in
+        ap (λ l. j.breaks s a ++ l) (behind_append n here (behind 1 rest) ∙ ap (λ l. behind n here ++ l) (behind_behind n 1 rest))
+        ∙ sym (append_assoc (j.breaks s a) (behind n here) (behind (n + 1) rest))
+        ∙ ap₂ (λ m l. (j.breaks s a ++ behind n here) ++ behind m l) size (view_breaks gs (next_of s a))
+
+    view_value : (gs : Turns A A) (s : S) → value_items j result (onto gs) s ≡ (looped s).value gs
+    view_value (last a) s = refl
+    view_value (more a gs) s = view_value gs (next_of s a)
+
+    view_blocks : (gs : Turns A A) (s : S) (t : Terminal) → false ≡ (looped s).blocks gs t
+    view_blocks (last a) s t = refl
+    view_blocks (more a gs) s t = view_blocks gs (next_of s a) t
+
+    view : (s : S) → IsView (looped s) (items_spec s)
+    view s = record {
+      onto = onto;
+      back = back;
+      again = again;
+      spell = λ gs. view_spell gs s;
+      breaks = λ gs. view_breaks gs s;
+      value = λ gs. view_value gs s;
+      blocks = λ gs t. view_blocks gs s t;
+      start = refl;
+    }
+
+    module _ (read : S → Reader V) (law : (s : S) → Lawful (entry_spec shut j blocks start some s) (read s)) where
+      turn_law : (s : S) → Lawful (turn s) (turn_at shut j result read s)
+      turn_law s =
+          Lawful-view (joined (entry s) (end_of s)) (turn s) (turn_view s) (turn_at shut j result read s)
+          (Lawful-then (entry s) (end_of s) (end_join s) (read s) (λ v. end_at shut (j.comma s v) (j.close s v) (j.next s v) (result s v)) (law s)
+              (λ a. (end_law a).sound)
+              (λ a kept. end_law a))
+        where
+          end_law : (a : A) → Lawful (end_of s a) (let v = j.value s a in end_at shut (j.comma s v) (j.close s v) (j.next s v) (result s v))
+          end_law a = let v = j.value s a in Lawful-end shut (j.comma s v) (j.close s v) (j.next s v) (result s v) are.other (are.comma_kinds s v) (are.close_kinds s v)
+
+      -- a list of lawful entries is lawful
+      pub Lawful-items : (s : S) → Lawful (items_spec s) (items_at shut j result read s)
+      unfolding items_at
+      Lawful-items s =
+          Lawful-view (looped s) (items_spec s) (view s) (loop (turn_at shut j result read) s)
+          (Lawful-loop turn next_of result_of some is_loop (turn_at shut j result read) turn_law s)
