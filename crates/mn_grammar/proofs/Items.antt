@@ -1,5 +1,5 @@
 -- Bracketed lists of entries that are read lawfully.
-use Rattle.std.proofs.Common.{◌≡◌, ◌⊎◌, ℕ, suc, ◌+◌, Bool, true, false, ◌||◌, ◌&&◌, List, [], ◌∷◌, ◌++◌, length, Option, Some, None, refl, sym, ap, ap₂, ◌∙◌, subst, inl, inr, arith, append_assoc, length-append}
+use Rattle.std.proofs.Common.{◌≡◌, ◌⊎◌, ℕ, suc, ◌+◌, Bool, true, false, ◌||◌, ◌&&◌, List, [], ◌∷◌, ◌++◌, length, Option, Some, None, refl, sym, ap, ap₂, ◌∙◌, subst, inl, inr, arith, append_assoc, append-nil, length-append}
 use Rattle.mn_lexer.specs.Terminals.{Terminal, mark}
 use Rattle.mn_lexer.specs.declared.marks.Mark.{Mark}
 use Rattle.mn_lexer.specs.declared.marks.Mark.TheVariants.{Comma}
@@ -218,3 +218,85 @@ module _ {A S V R : Type 0} (shut : Mark) (j : Judge A S V) (blocks : A → Term
       Lawful-items s =
           Lawful-view (looped s) (items_spec s) (view s) (loop (turn_at shut j result read) s)
           (Lawful-loop turn next_of result_of some is_loop (turn_at shut j result read) turn_law s)
+
+-- the front of two lists, where the first isn't empty
+front_of : (l m : List Terminal) (t : Terminal) (q : List Terminal) → (l ≡ [] → ⊥) → l ++ m ≡ t ∷ q → (r : List Terminal) × (l ≡ t ∷ r)
+front_of [] m t q some e = absurd (some refl)
+front_of (u ∷ l) m t q some e = let same : u ≡ t = cc in (l, ap (λ x. x ∷ l) same)
+
+not_nil : (b : Bool) (l : List Terminal) → (l ≡ [] → ⊥) → ((b && is_nil l) || false) ≡ false
+not_nil b [] some = absurd (some refl)
+not_nil b (t ∷ l) some = nothing_on b
+
+module _ {A S V R : Type 0} (shut : Mark) (j : Judge A S V) (blocks : A → Terminal → Bool) (start : Site) (some : A) (empty : Option Kind) (none : R) (result : S → V → R) where
+  -- the trees of a list that may be empty
+  abbrev pub maybe_spec : S → Spec (Option (Items A)) R
+  maybe_spec s = record {
+    spell = spell_maybe shut j.spell;
+    breaks = λ l. breaks_maybe j empty l s;
+    value = λ l. value_maybe j none result l s;
+    blocks = λ l t. false;
+    start = start;
+    any = Some (final some);
+  }
+
+  module _ (are : Entries shut j blocks start some) (not_shut : (a : A) (t : Terminal) (q : List Terminal) → j.spell a ≡ t ∷ q → is_the_mark shut t ≡ false) (empty_kinds : (kind : Kind) → empty ≡ Some kind → is_condition kind ≡ true) where
+    abbrev shut_spec : Spec (Unit {0} × Unit {0}) R
+    shut_spec = joined (a_mark marks_only shut empty) (λ u. nothing marks_only none)
+
+    shut_law : Lawful shut_spec (then_read (mark_at marks_only shut empty) (λ u. ret none))
+    shut_law =
+        Lawful-then (a_mark marks_only shut empty) (λ u. nothing marks_only none)
+        (record { apart = λ u v t q e. refl; fits = λ u. Fits-nothing marks_only; starts = λ u e. absurd cc })
+        (mark_at marks_only shut empty) (λ u. ret none)
+        (Lawful-mark shut empty empty_kinds)
+        (λ u. (Lawful-ret marks_only none).sound)
+        (λ u kept. Lawful-ret marks_only none)
+
+    items_solid : (l : Items A) → spell_items shut j.spell l ≡ [] → ⊥
+    items_solid (final a) e = are.solid a (both_nil (j.spell a) (mark shut ∷ []) e).0
+    items_solid (also a l) e = are.solid a (both_nil (j.spell a) (mark Comma ∷ spell_items shut j.spell l) e).0
+
+    items_apart : (l : Items A) (t : Terminal) (q : List Terminal) → spell_items shut j.spell l ≡ t ∷ q → is_the_mark shut t ≡ false
+    items_apart (final a) t q e = let f = front_of (j.spell a) (mark shut ∷ []) t q (are.solid a) e in not_shut a t f.0 f.1
+    items_apart (also a l) t q e = let f = front_of (j.spell a) (mark Comma ∷ spell_items shut j.spell l) t q (are.solid a) e in not_shut a t f.0 f.1
+
+    module _ (s : S) where
+      abbrev listed : Spec (Items A) R
+      listed = items_spec shut j blocks start some result s
+
+      choice : Choice (is_the_mark shut) shut_spec listed
+      choice = record {
+        begins = λ x. (mark shut, [], refl, is_itself shut);
+        starts = λ t e. ((tt, tt), [], ap (λ u. u ∷ []) (sym (the_mark shut t e)));
+        apart = λ l t q e. items_apart l t q e;
+        fits = Fits-marks start (is_the_mark shut) (is_no_other shut);
+      }
+
+      abbrev maybe_onto : (Unit {0} × Unit {0}) ⊎ Items A → Option (Items A)
+      maybe_onto (inl x) = None
+      maybe_onto (inr l) = Some l
+
+      abbrev maybe_back : Option (Items A) → (Unit {0} × Unit {0}) ⊎ Items A
+      maybe_back None = inl (tt, tt)
+      maybe_back (Some l) = inr l
+
+      maybe_view : IsView (either (is_the_mark shut) shut_spec listed) (maybe_spec s)
+      maybe_view = record {
+        onto = maybe_onto;
+        back = maybe_back;
+        again = elim [ None ↦ refl | Some l ↦ refl ];
+        spell = elim [ inl x ↦ refl | inr l ↦ refl ];
+        breaks = elim [ inl x ↦ sym (append-nil (on empty)) | inr l ↦ refl ];
+        value = elim [ inl x ↦ refl | inr l ↦ refl ];
+        blocks = elim [ inl x ↦ λ t. refl | inr l ↦ λ t. sym (not_nil (is_the_mark shut t) (spell_items shut j.spell l) (items_solid l)) ];
+        start = refl;
+      }
+
+      -- a list that may be empty, of lawful entries, is lawful
+      pub Lawful-maybe : (read : S → Reader V) → ((z : S) → Lawful (entry_spec shut j blocks start some z) (read z)) → Lawful (maybe_spec s) (maybe_at shut j empty none result read s)
+      unfolding maybe_at
+      Lawful-maybe read law =
+          Lawful-view (either (is_the_mark shut) shut_spec listed) (maybe_spec s) maybe_view (maybe_at shut j empty none result read s)
+          (Lawful-or (is_the_mark shut) shut_spec listed choice (then_read (mark_at marks_only shut empty) (λ u. ret none)) (items_at shut j result read s)
+              shut_law (Lawful-items shut j blocks start some result are read law s))
