@@ -19,8 +19,8 @@ use Rattle.mn_grammar.proofs.Views.{IsView, Lawful-view}
 use Rattle.mn_grammar.proofs.Loops.{Turns, last, more, spell_turns, breaks_turns, value_turns, blocks_turns, turns, Loop, Lawful-loop}
 use Rattle.mn_grammar.specs.declared.Kind.{Kind}
 
--- an empty list adds nothing
-nothing_on : (b : Bool) → ((b && false) || false) ≡ false
+-- what would go on with a part that isn't the last counts for nothing
+pub nothing_on : (b : Bool) → ((b && false) || false) ≡ false
 nothing_on true = refl
 nothing_on false = refl
 

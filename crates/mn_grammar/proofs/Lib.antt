@@ -8,4 +8,6 @@ pub mod Refusals
 pub mod Choices
 pub mod Loops
 pub mod Items
+pub mod Steps
+pub mod Tables
 pub mod Exact

@@ -5,3 +5,4 @@ pub mod Reading
 pub mod Lawful
 pub mod Laws
 pub mod Lists
+pub mod Rows

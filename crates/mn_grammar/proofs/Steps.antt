@@ -1,0 +1,124 @@
+-- Steps that most rules are made of: a token and what follows it, a mark and what follows it, another value.
+use Rattle.std.proofs.Common.{◌≡◌, ◌⊎◌, ℕ, Bool, true, false, ◌||◌, ◌&&◌, List, [], ◌∷◌, ◌++◌, length, Option, Some, None, Ok, Err, refl, sym, ap, ◌∙◌, subst, inl, inr}
+use Rattle.mn_lexer.specs.Terminals.{Terminal, mark}
+use Rattle.mn_lexer.specs.declared.marks.Mark.{Mark}
+use Rattle.mn_grammar.specs.Kinds.{is_condition}
+use Rattle.mn_grammar.specs.Places.{Break, on, behind}
+use Rattle.mn_grammar.specs.Reading.{Answer, Reader, Site, marks_only, go_on, then_read, ret, mark_at}
+use Rattle.mn_grammar.specs.Lawful.{Spec, OnlyMarks, Fits, Lacks, first, answered, answer_of, Sound, IsRead, IsLeft, IsBroken, Said, Lawful}
+use Rattle.mn_grammar.proofs.Sites.{Fits-nothing}
+use Rattle.mn_grammar.proofs.Leaves.{leaf}
+use Rattle.mn_grammar.proofs.Marks.{a_mark, Lawful-mark}
+use Rattle.mn_grammar.proofs.Joins.{joined, Join, Lawful-then}
+use Rattle.mn_grammar.proofs.Views.{IsView, Lawful-view}
+use Rattle.mn_grammar.specs.declared.Fault.{Fault}
+use Rattle.mn_grammar.specs.declared.Kind.{Kind}
+
+-- behind a leaf anything may stand
+pub join_leaf :
+    {A V W : Type 0} {Y : A → Type 0} (site : Site) (token : A → Terminal) (value : A → V) (judge : V → Option Kind) (some : A) (b : (a : A) → Spec (Y a) W)
+    → Join (leaf site token value judge some) b
+join_leaf site token value judge some b = record {
+  apart = λ a y t q e. refl;
+  fits = λ a. Fits-nothing (b a).start;
+  starts = λ a e. absurd cc;
+}
+
+-- Behind what has tokens, and with which only marks go on, may stand what begins with another mark.
+pub join_mark :
+    {X V W : Type 0} {Y : X → Type 0} (a : Spec X V) (b : (x : X) → Spec (Y x) W)
+    → ((x : X) → a.spell x ≡ [] → ⊥) → ((x : X) → OnlyMarks (a.blocks x)) → ((x : X) → (b x).start ≡ marks_only)
+    → ((x : X) (y : Y x) (t : Terminal) (q : List Terminal) → (b x).spell y ≡ t ∷ q → a.blocks x t ≡ false)
+    → Join a b
+join_mark a b solid marks starts apart = record {
+  apart = apart;
+  fits = λ x. subst (λ s. Fits s (a.blocks x)) (sym (starts x)) (marks x);
+  starts = λ x none. absurd (solid x none);
+}
+
+-- the same trees, which stand for another value
+abbrev pub valued : {X V W : Type 0} → (V → W) → Spec X V → Spec X W
+valued f s = record { spell = s.spell; breaks = s.breaks; value = λ x. f (s.value x); blocks = s.blocks; start = s.start; any = s.any }
+
+module _ {X V W : Type 0} (f : V → W) (s : Spec X V) (read : Reader V) where
+  abbrev given : Answer V → Answer W
+  given r = go_on r (λ v. ret (f v))
+
+  said_valued : (ts : List Terminal) (r : Answer V) → Said s read ts r → Said (valued f s) (then_read read (λ v. ret (f v))) ts (given r)
+  said_valued ts (Ok r) is = record { tree = is.tree; parts = is.parts; kept = is.kept; means = ap f is.means; ends = is.ends }
+  said_valued ts (Err e) (inl left) = inl (record {
+    passed = left.passed;
+    others = left.others;
+    site = left.site;
+    wanted = left.wanted;
+    parts = left.parts;
+    place = left.place;
+    lacks = left.lacks;
+    is_site = left.is_site;
+    wants = left.wants;
+    refuses = λ us lacks. ap given (left.refuses us lacks);
+    fine = left.fine;
+    starts = left.starts;
+  })
+  said_valued ts (Err e) (inr is) = inr (record {
+    passed = is.passed;
+    token = is.token;
+    others = is.others;
+    kind = is.kind;
+    parts = is.parts;
+    place = is.place;
+    refuses = λ q. ap given (is.refuses q);
+    broken = is.broken;
+  })
+
+  answered_valued : (o : Option Break) (n : ℕ) (v : V) (rest : List Terminal) → given (answered o n v rest) ≡ answered o n (f v) rest
+  answered_valued None n v rest = refl
+  answered_valued (Some k) n v rest = refl
+
+  pub Lawful-valued : Lawful s read → Lawful (valued f s) (then_read read (λ v. ret (f v)))
+  Lawful-valued law = record {
+    sound = record { kinds = law.sound.kinds; within = law.sound.within; extends = law.sound.extends };
+    complete = λ x rest lacks. ap given (law.complete x rest lacks) ∙ answered_valued (first (s.breaks x)) (length (s.spell x)) (s.value x) rest;
+    said = λ ts. said_valued ts (read ts) (law.said ts);
+  }
+
+-- a mark with a condition on it, and what follows
+abbrev pub mark_then : {Y W : Type 0} → Mark → Option Kind → Spec Y W → Spec Y W
+mark_then m c b = record {
+  spell = λ y. mark m ∷ b.spell y;
+  breaks = λ y. on c ++ behind 1 (b.breaks y);
+  value = b.value;
+  blocks = b.blocks;
+  start = marks_only;
+  any = b.any;
+}
+
+none_of : (c : Option Kind) → on c ≡ [] → c ≡ None
+none_of None e = refl
+none_of (Some kind) e = cc
+
+module _ {Y W : Type 0} (m : Mark) (c : Option Kind) (kinds : (kind : Kind) → c ≡ Some kind → is_condition kind ≡ true) where
+  -- what follows is lawful at least where the condition is kept
+  pub Lawful-mark_then : (b : Spec Y W) (rb : Reader W) → Sound b → (c ≡ None → Lawful b rb) → Lawful (mark_then m c b) (then_read (mark_at marks_only m c) (λ u. rb))
+  Lawful-mark_then b rb sound law =
+      Lawful-view (joined (a_mark marks_only m c) (λ u. b)) (mark_then m c b)
+      (record {
+        onto = λ p. p.1;
+        back = λ y. (tt, y);
+        again = λ y. refl;
+        spell = λ p. refl;
+        breaks = λ p. refl;
+        value = λ p. refl;
+        blocks = λ p t. refl;
+        start = refl;
+      })
+      (then_read (mark_at marks_only m c) (λ u. rb))
+      (Lawful-then (a_mark marks_only m c) (λ u. b) (join_leaf marks_only (λ u. mark m) (λ u. u) (λ u. c) tt (λ u. b)) (mark_at marks_only m c) (λ u. rb)
+          (Lawful-mark m c kinds) (λ u. sound) (λ u kept. law (none_of c kept)))
+
+-- a mark with a condition on it, which is the last
+abbrev pub mark_last : {W : Type 0} → Mark → Option Kind → W → Spec (Unit {0}) W
+mark_last m c w = valued (λ u. w) (a_mark marks_only m c)
+
+pub Lawful-mark_last : {W : Type 0} (m : Mark) (c : Option Kind) (w : W) → ((kind : Kind) → c ≡ Some kind → is_condition kind ≡ true) → Lawful (mark_last m c w) (then_read (mark_at marks_only m c) (λ u. ret w))
+Lawful-mark_last m c w kinds = Lawful-valued (λ u. w) (a_mark marks_only m c) (mark_at marks_only m c) (Lawful-mark m c kinds)
