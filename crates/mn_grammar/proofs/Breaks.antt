@@ -130,20 +130,25 @@ behind_has n (b ∷ bs) place kind (inl here) = (b.0, here.0, inl (refl, here.1)
 behind_has n (b ∷ bs) place kind (inr later) = let r = behind_has n bs place kind later in (r.0, r.1, inr r.2)
 
 -- the first of two lists of which the second is behind the first one's tokens
-pub first_front : (n : ℕ) (bs cs : List Break) (b : Break) → ((place : ℕ) (kind : Kind) → Has bs place kind → place < n) → first bs ≡ Some b → first (bs ++ behind n cs) ≡ Some b
+pub first_front : (n : ℕ) (bs cs : List Break) (b : Break) → b.0 < n → first bs ≡ Some b → first (bs ++ behind n cs) ≡ Some b
 first_front n bs cs b within e =
     let is : IsFirst bs (Some b) = subst (λ o. IsFirst bs o) e (first_is bs) in
     first_unique (bs ++ behind n cs) _ (Some b) (first_is (bs ++ behind n cs)) (
       has_front bs (behind n cs) b.0 b.1 is.0,
       λ place kind has. ⊎_elim
           (λ front. is.1 place kind front)
-          (λ back. let r = behind_has n cs place kind back in let p = r.1 in let w = within b.0 b.1 is.0 in inl (omega arith))
+          (λ back. let r = behind_has n cs place kind back in let p = r.1 in inl (omega arith))
           (has_either bs (behind n cs) place kind has),
     )
 
 abbrev pub moved : ℕ → Option Break → Option Break
 moved n None = None
 moved n (Some b) = Some (n + b.0, b.1)
+
+-- the first of two, of which the second is behind n tokens
+abbrev pub or_moved : ℕ → Option Break → Option Break → Option Break
+or_moved n (Some b) p = Some b
+or_moved n None p = moved n p
 
 first_moved : (n : ℕ) (bs : List Break) (o : Option Break) → IsFirst bs o → IsFirst (behind n bs) (moved n o)
 first_moved n bs None none = ap (behind n) none
@@ -174,3 +179,29 @@ behind_none [] = refl
 behind_none (b ∷ bs) =
     let place : 0 + b.0 ≡ b.0 = omega arith in
     λ i. (place i, b.1) ∷ behind_none bs i
+
+-- the first of two lists, where the first of the one lies before all of the other
+pub first_joined : (n : ℕ) (bs cs : List Break) → ((b : Break) → first bs ≡ Some b → b.0 < n) → (o : Option Break) → first bs ≡ o → first (bs ++ behind n cs) ≡ or_moved n o (first cs)
+first_joined n bs cs within (Some b) e = first_front n bs cs b (within b e) e
+first_joined n bs cs within None e = ap (λ l. first (l ++ behind n cs)) (none_first bs e) ∙ first_behind n cs
+
+-- all that is broken lies behind n tokens exactly where the first does
+abbrev LiesBehind : ℕ → Option Break → Type 0
+LiesBehind n None = Unit {0}
+LiesBehind n (Some b) = n ≤ b.0
+
+all_behind : (n : ℕ) (bs : List Break) (o : Option Break) → IsFirst bs o → LiesBehind n o → (place : ℕ) (kind : Kind) → Has bs place kind → n ≤ place
+all_behind n bs None is lies place kind has = absurd (subst (λ l. Has l place kind) is has)
+all_behind n bs (Some b) is lies place kind has = at (is.1 place kind has)
+  where
+    at : NotBefore b place kind → n ≤ place
+    at (inl less) = omega arith
+    at (inr same) = let e = same.0 in omega arith
+
+first_lies : (n : ℕ) (bs : List Break) (o : Option Break) → IsFirst bs o → ((place : ℕ) (kind : Kind) → Has bs place kind → n ≤ place) → LiesBehind n o
+first_lies n bs None is all = tt
+first_lies n bs (Some b) is all = all b.0 b.1 is.0
+
+-- so two lists with one first lie alike
+pub lies_alike : (n : ℕ) (bs cs : List Break) → first bs ≡ first cs → ((place : ℕ) (kind : Kind) → Has bs place kind → n ≤ place) → (place : ℕ) (kind : Kind) → Has cs place kind → n ≤ place
+lies_alike n bs cs e all = all_behind n cs (first cs) (first_is cs) (subst (λ o. LiesBehind n o) e (first_lies n bs (first bs) (first_is bs) all))

@@ -250,8 +250,7 @@ module _ {X V : Type 0} (s : Spec X V) (stop : Option LexFault) (read : Reader V
             let fault = same_fault _ _ same in
             let left : length (s.spell x) - k.0 + 0 ≡ suc (length q) = ap (λ (e : Fault). e.left) fault in
             let kinds : k.1 ≡ is.kind = ap (λ (e : Fault). e.kind) fault in
-            let first_of : IsFirst (s.breaks x) (Some k) = subst (λ o. IsFirst (s.breaks x) o) f (first_is (s.breaks x)) in
-            let within = law.sound.within x k.0 k.1 first_of.0 in
+            let within = law.sound.within x k f in
             let place : k.0 ≡ length is.passed = omega (arith, size) in
             λ i. Some (place i, kinds i)
 

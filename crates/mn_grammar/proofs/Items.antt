@@ -7,7 +7,7 @@ use Rattle.mn_grammar.specs.Tokens.{is_the_mark}
 use Rattle.mn_grammar.specs.Kinds.{is_condition}
 use Rattle.mn_grammar.specs.Places.{Break, on, behind}
 use Rattle.mn_grammar.specs.Reading.{Reader, Site, marks_only, Turn, goes_on, is_done, then_read, ret, or_else, loop, mark_at, end_at}
-use Rattle.mn_grammar.specs.Lawful.{Spec, OnlyMarks, Fits, Lawful}
+use Rattle.mn_grammar.specs.Lawful.{Spec, OnlyMarks, Fits, first, Lawful}
 use Rattle.mn_grammar.specs.Lists.{Items, final, also, spell_items, spell_maybe, Judge, breaks_items, value_items, breaks_maybe, value_maybe, turn_at, items_at, maybe_at}
 use Rattle.mn_grammar.proofs.Breaks.{behind_append, behind_behind}
 use Rattle.mn_grammar.proofs.Sites.{is_nil, both_nil, Fits-marks, Fits-nothing}
@@ -124,7 +124,7 @@ module _ {A S V R : Type 0} (shut : Mark) (j : Judge A S V) (blocks : A → Term
       back = turn_back;
       again = turn_again;
       spell = λ p. turn_spell p.0 p.1;
-      breaks = λ p. turn_breaks s p.0 p.1;
+      breaks = λ p. ap first (turn_breaks s p.0 p.1);
       value = λ p. turn_value s p.0 p.1;
       blocks = λ p t. sym (nothing_on (blocks p.0 t));
       start = refl;
@@ -195,7 +195,7 @@ module _ {A S V R : Type 0} (shut : Mark) (j : Judge A S V) (blocks : A → Term
       back = back;
       again = again;
       spell = λ gs. view_spell gs s;
-      breaks = λ gs. view_breaks gs s;
+      breaks = λ gs. ap first (view_breaks gs s);
       value = λ gs. view_value gs s;
       blocks = λ gs t. view_blocks gs s t;
       start = refl;
@@ -287,7 +287,7 @@ module _ {A S V R : Type 0} (shut : Mark) (j : Judge A S V) (blocks : A → Term
         back = maybe_back;
         again = elim [ None ↦ refl | Some l ↦ refl ];
         spell = elim [ inl x ↦ refl | inr l ↦ refl ];
-        breaks = elim [ inl x ↦ sym (append-nil (on empty)) | inr l ↦ refl ];
+        breaks = elim [ inl x ↦ ap first (sym (append-nil (on empty))) | inr l ↦ refl ];
         value = elim [ inl x ↦ refl | inr l ↦ refl ];
         blocks = elim [ inl x ↦ λ t. refl | inr l ↦ λ t. sym (not_nil (is_the_mark shut t) (spell_items shut j.spell l) (items_solid l)) ];
         start = refl;

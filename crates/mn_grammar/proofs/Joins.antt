@@ -6,7 +6,7 @@ use Rattle.mn_grammar.specs.Kinds.{is_condition}
 use Rattle.mn_grammar.specs.Places.{Break, behind, Has, IsFine}
 use Rattle.mn_grammar.specs.Reading.{Answer, Reader, Site, refused, fault_at, go_on, then_read}
 use Rattle.mn_grammar.specs.Lawful.{Spec, IsSite, Fits, Lacks, first, answered, answer_of, Sound, IsRead, IsLeft, IsBroken, Said, Complete, Lawful}
-use Rattle.mn_grammar.proofs.Breaks.{IsFirst, first_is, first_front, first_behind, none_first, moved, has_either, behind_has}
+use Rattle.mn_grammar.proofs.Breaks.{first_front, first_joined, first_behind, none_first, moved, has_either, behind_has}
 use Rattle.mn_grammar.proofs.Sites.{is_nil, nil_of, both_nil, IsSite-wider, Fits-where, Lacks-parts, Lacks-both, Lacks-front, Lacks-behind, Lacks-same}
 use Rattle.mn_grammar.specs.declared.Fault.{Fault}
 use Rattle.mn_grammar.specs.declared.Kind.{Kind}
@@ -72,7 +72,7 @@ module _ {X V W : Type 0} {Y : X → Type 0} (a : Spec X V) (b : (x : X) → Spe
   abbrev front_broken : Sound a → (p : List Terminal) (kind : Kind) → (x : X) × (q : List Terminal) × (a.spell x ≡ p ++ q) × (first (a.breaks x) ≡ Some (length p, kind)) → (z : (x : X) × Y x) × (q : List Terminal) × (s.spell z ≡ p ++ q) × (first (s.breaks z) ≡ Some (length p, kind))
   front_broken sound p kind (x, q, e, f) =
       let r = pair_begins p (x, q, e) in
-      (r.0, r.1, r.2, first_front (length (a.spell x)) (a.breaks x) _ _ (λ place other has. sound.within x place other has) f)
+      (r.0, r.1, r.2, first_front (length (a.spell x)) (a.breaks x) _ _ (sound.within x _ f) f)
 
   -- a token that goes on with a tree of a, where nothing of b is read yet
   front_extends : Sound a → (x : X) (p : List Terminal) (t : Terminal) → a.blocks x t ≡ true → p ≡ [] → (z : (x : X) × Y x) × (q : List Terminal) × (s.spell z ≡ (a.spell x ++ p) ++ t ∷ q)
@@ -81,19 +81,31 @@ module _ {X V W : Type 0} {Y : X → Type 0} (a : Spec X V) (b : (x : X) → Spe
       let r = pair_begins (a.spell x) (y.0, t ∷ y.1, y.2) in
       (r.0, y.1 ++ (b y.0).spell (b y.0).any, r.2 ∙ ap (λ l. l ++ t ∷ (y.1 ++ (b y.0).spell (b y.0).any)) (sym (ap (λ l. a.spell x ++ l) none ∙ append-nil (a.spell x))))
 
+  -- what both break first is what the first does, or the second
+  pub first_pair : Sound a → (x : X) (y : Y x) (k : Break) (o : Option Break) → first (a.breaks x) ≡ o → first (s.breaks (x, y)) ≡ Some k → ((l : Break) → first ((b x).breaks y) ≡ Some l → (is_condition l.1 ≡ true) × (l.0 < length ((b x).spell y))) → (is_condition k.1 ≡ true) × (k.0 < length (s.spell (x, y)))
+  first_pair sa x y k (Some l) e f back =
+      let same : ◌≡◌ {A = Option Break} (Some l) (Some k) = sym (first_front (length (a.spell x)) (a.breaks x) ((b x).breaks y) l (sa.within x l e) e) ∙ f in
+      let is : first (a.breaks x) ≡ Some k = e ∙ same in
+      let size = length-append (a.spell x) ((b x).spell y) in
+      let w = sa.within x k is in
+      (sa.kinds x k is, omega arith)
+  first_pair sa x y k None e f back = at (first ((b x).breaks y)) refl (sym (first_joined (length (a.spell x)) (a.breaks x) ((b x).breaks y) (sa.within x) None e) ∙ f)
+    where
+      at : (o : Option Break) → first ((b x).breaks y) ≡ o → moved (length (a.spell x)) o ≡ Some k → (is_condition k.1 ≡ true) × (k.0 < length (s.spell (x, y)))
+      at None g same = absurd cc
+      at (Some l) g same =
+          let is : ◌≡◌ {A = Break} (length (a.spell x) + l.0, l.1) k = cc in
+          let place = ap (λ (c : Break). c.0) is in
+          let kind = ap (λ (c : Break). c.1) is in
+          let size = length-append (a.spell x) ((b x).spell y) in
+          let w = (back l g).1 in
+          (subst (λ c. is_condition c ≡ true) kind (back l g).0, omega arith)
+
   -- the trees are in order
   pub Sound-joined : Sound a → ((x : X) → Sound (b x)) → Sound s
   Sound-joined sa sb = record {
-    kinds = λ z place kind has. ⊎_elim
-        (λ front. sa.kinds z.0 place kind front)
-        (λ back. let k = behind_has (length (a.spell z.0)) _ place kind back in (sb z.0).kinds z.1 k.0 kind k.2)
-        (has_either (a.breaks z.0) _ place kind has);
-    within = λ z place kind has.
-        let size = length-append (a.spell z.0) ((b z.0).spell z.1) in
-        ⊎_elim
-        (λ front. let w = sa.within z.0 place kind front in omega arith)
-        (λ back. let k = behind_has (length (a.spell z.0)) _ place kind back in let at = k.1 in let w = (sb z.0).within z.1 k.0 kind k.2 in omega arith)
-        (has_either (a.breaks z.0) _ place kind has);
+    kinds = λ z k e. (first_pair sa z.0 z.1 k (first (a.breaks z.0)) refl e (λ l g. ((sb z.0).kinds z.1 l g, (sb z.0).within z.1 l g))).0;
+    within = λ z k e. (first_pair sa z.0 z.1 k (first (a.breaks z.0)) refl e (λ l g. ((sb z.0).kinds z.1 l g, (sb z.0).within z.1 l g))).1;
     extends = λ z t e. ⊎_elim
         (λ front. let both = and_parts _ _ front in front_extends sa z.0 ((b z.0).spell z.1) t both.0 (nil_of ((b z.0).spell z.1) both.1))
         (λ back. let y = (sb z.0).extends z.1 t back in
@@ -116,9 +128,8 @@ module _ {X V W : Type 0} {Y : X → Type 0} (a : Spec X V) (b : (x : X) → Spe
       size = length-append (a.spell x) ((b x).spell y)
       by_first : (o : Option Break) → first (a.breaks x) ≡ o → go_on (answered o m (a.value x) ((b x).spell y ++ rest)) rb ≡ answer_of s (x, y) rest
       by_first (Some k) e =
-          let is : IsFirst (a.breaks x) (Some k) = subst (λ o. IsFirst (a.breaks x) o) e (first_is (a.breaks x)) in
-          let within = sound.within x k.0 k.1 is.0 in
-          let whole : first (s.breaks (x, y)) ≡ Some k = first_front m (a.breaks x) _ k (λ place kind has. sound.within x place kind has) e in
+          let within = sound.within x k e in
+          let whole : first (s.breaks (x, y)) ≡ Some k = first_front m (a.breaks x) _ k within e in
           answered_front k m n ((b x).value y) rest ((b x).spell y ++ rest) within (length-append ((b x).spell y) rest)
           ∙ ap (λ o. answered o (m + n) ((b x).value y) rest) (sym whole)
           ∙ ap (λ i. answered (first (s.breaks (x, y))) i ((b x).value y) rest) (sym size)

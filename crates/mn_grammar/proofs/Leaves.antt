@@ -33,10 +33,9 @@ judged_on (Some kind) w t rest =
     let same : suc (length rest) ≡ (1 - 0) + length rest = omega arith in
     λ i. Err (record { left = same i; kind = kind })
 
-kind_on : (c : Option Kind) (kind : Kind) (place : ℕ) → Has (on c) place kind → (place ≡ 0) × (c ≡ Some kind)
-kind_on None kind place has = absurd has
-kind_on (Some k) kind place (inl here) = (sym here.0, ap (λ x. Some x) here.1)
-kind_on (Some k) kind place (inr later) = absurd later
+first_on : (c : Option Kind) (b : Break) → first (on c) ≡ Some b → (b.0 ≡ 0) × (c ≡ Some b.1)
+first_on None b e = absurd cc
+first_on (Some k) b e = let same : ◌≡◌ {A = Break} (0, k) b = cc in (sym (ap (λ (x : Break). x.0) same), ap (λ (x : Break). Some x.1) same)
 
 -- what a class of tokens has to show
 pub record IsLeaf {A W : Type 0} (site : Site) (token : A → Terminal) (value : A → W) (classify : Terminal → Option W) (judge : W → Option Kind) : Type 0 where
@@ -51,8 +50,8 @@ module _ {A W : Type 0} (site : Site) (token : A → Terminal) (value : A → W)
 
   leaf_sound : Sound s
   leaf_sound = record {
-    kinds = λ a place kind has. is.kinds (value a) kind (kind_on (judge (value a)) kind place has).1;
-    within = λ a place kind has. let e = (kind_on (judge (value a)) kind place has).0 in omega arith;
+    kinds = λ a b e. is.kinds (value a) b.1 (first_on (judge (value a)) b e).1;
+    within = λ a b e. let same = (first_on (judge (value a)) b e).0 in omega arith;
     extends = λ a t e. cc;
   }
 
@@ -131,7 +130,7 @@ nothing site v = record {
 
 pub Lawful-ret : {V : Type 0} (site : Site) (v : V) → Lawful (nothing site v) (ret v)
 Lawful-ret site v = record {
-  sound = record { kinds = λ u place kind has. absurd has; within = λ u place kind has. absurd has; extends = λ u t e. cc };
+  sound = record { kinds = λ u b e. cc; within = λ u b e. cc; extends = λ u t e. cc };
   complete = λ u rest lacks. refl;
   said = λ ts. record { tree = tt; parts = refl; kept = refl; means = refl; ends = Lacks-none ts };
 }

@@ -6,10 +6,9 @@ use Rattle.mn_grammar.specs.Kinds.{is_condition}
 use Rattle.mn_grammar.specs.Places.{Break, behind, Has}
 use Rattle.mn_grammar.specs.Reading.{Answer, Reader, Site, go_on, then_read, ret, Turn, goes_on, is_done, turned, loop_by, loop}
 use Rattle.mn_grammar.specs.Lawful.{Spec, Fits, Lacks, first, answered, answer_of, Sound, IsRead, Said, Complete, Lawful}
-use Rattle.mn_grammar.proofs.Breaks.{has_either, behind_has}
 use Rattle.mn_grammar.proofs.Sites.{is_nil, nil_of, Lacks-parts}
 use Rattle.mn_grammar.proofs.Leaves.{nothing, Lawful-ret}
-use Rattle.mn_grammar.proofs.Joins.{joined, Join, complete_pair, Said-joined, Lacks-joined}
+use Rattle.mn_grammar.proofs.Joins.{joined, Join, first_pair, complete_pair, Said-joined, Lacks-joined}
 use Rattle.mn_grammar.proofs.Views.{IsView, Said-view}
 use Rattle.mn_grammar.specs.declared.Fault.{Fault}
 use Rattle.mn_grammar.specs.declared.Kind.{Kind}
@@ -124,28 +123,17 @@ module _ {G E S V : Type 0} (turn : S → Spec (G ⊎ E) (Turn S V)) (next : S �
     back = back;
     again = again;
     spell = λ p. view_spell s p.0 p.1;
-    breaks = λ p. view_breaks s p.0 p.1;
+    breaks = λ p. ap first (view_breaks s p.0 p.1);
     value = λ p. view_value s p.0 p.1;
     blocks = λ p t. view_blocks s p.0 p.1 t;
     start = refl;
   }
 
   module _ (sound : (s : S) → Sound (turn s)) where
-    turns_kinds : (gs : Turns G E) (s : S) (place : ℕ) (kind : Kind) → Has ((spec s).breaks gs) place kind → is_condition kind ≡ true
-    turns_kinds (last e) s place kind has = (sound s).kinds (inr e) place kind has
-    turns_kinds (more g gs) s place kind has = ⊎_elim
-        (λ front. (sound s).kinds (inl g) place kind front)
-        (λ later. let k = behind_has (length ((turn s).spell (inl g))) _ place kind later in turns_kinds gs (next s g) k.0 kind k.2)
-        (has_either ((turn s).breaks (inl g)) _ place kind has)
-
-    turns_within : (gs : Turns G E) (s : S) (place : ℕ) (kind : Kind) → Has ((spec s).breaks gs) place kind → place < length ((spec s).spell gs)
-    turns_within (last e) s place kind has = (sound s).within (inr e) place kind has
-    turns_within (more g gs) s place kind has =
-        let size = length-append ((turn s).spell (inl g)) ((spec (next s g)).spell gs) in
-        ⊎_elim
-        (λ front. let w = (sound s).within (inl g) place kind front in omega arith)
-        (λ later. let k = behind_has (length ((turn s).spell (inl g))) _ place kind later in let at = k.1 in let w = turns_within gs (next s g) k.0 kind k.2 in omega arith)
-        (has_either ((turn s).breaks (inl g)) _ place kind has)
+    -- what is broken first is in a turn, and in order there
+    turns_first : (gs : Turns G E) (s : S) (k : Break) → first ((spec s).breaks gs) ≡ Some k → (is_condition k.1 ≡ true) × (k.0 < length ((spec s).spell gs))
+    turns_first (last e) s k f = ((sound s).kinds (inr e) k f, (sound s).within (inr e) k f)
+    turns_first (more g gs) s k f = first_pair (turn s) (after s) (join s) (sound s) (inl g) gs k (first ((turn s).breaks (inl g))) refl f (turns_first gs (next s g))
 
     -- a turn that begins so, as the first of some
     turn_begins : (s : S) (p : List Terminal) (x : G ⊎ E) (q : List Terminal) → (turn s).spell x ≡ p ++ q → (gs : Turns G E) × (tail : List Terminal) × ((spec s).spell gs ≡ p ++ (q ++ tail))
@@ -172,8 +160,8 @@ module _ {G E S V : Type 0} (turn : S → Spec (G ⊎ E) (Turn S V)) (next : S �
     -- the trees of a loop are in order, where those of its turns are
     pub Sound-loop : (s : S) → Sound (spec s)
     Sound-loop s = record {
-      kinds = λ gs place kind has. turns_kinds gs s place kind has;
-      within = λ gs place kind has. turns_within gs s place kind has;
+      kinds = λ gs k f. (turns_first gs s k f).0;
+      within = λ gs k f. (turns_first gs s k f).1;
       extends = λ gs t blocks. turns_extends gs s t blocks;
     }
 

@@ -28,8 +28,7 @@ module _ {X V : Type 0} (s : Spec X V) where
       by_first : (o : Option Break) → first (s.breaks x) ≡ o → ⊥
       by_first None f = ok_no_fault (s.value x, rest) e (ap (λ o. answered o (length (s.spell x)) (s.value x) rest) (sym f) ∙ same)
       by_first (Some k) f =
-          let is : IsFirst (s.breaks x) (Some k) = subst (λ o. IsFirst (s.breaks x) o) f (first_is (s.breaks x)) in
-          let condition : is_condition k.1 ≡ true = sound.kinds x k.0 k.1 is.0 in
+          let condition : is_condition k.1 ≡ true = sound.kinds x k f in
           let kinds : k.1 ≡ e.kind = ap (λ (e : Fault). e.kind) (same_fault {V = V} (record { left = length (s.spell x) - k.0 + length rest; kind = k.1 }) e (ap (λ o. answered o (length (s.spell x)) (s.value x) rest) (sym f) ∙ same)) in
           let clash : true ≡ false = sym condition ∙ ap is_condition kinds ∙ grammar in
           absurd cc

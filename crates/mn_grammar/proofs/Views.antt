@@ -4,17 +4,18 @@ use Rattle.mn_lexer.specs.Terminals.{Terminal}
 use Rattle.mn_grammar.specs.Places.{Break, Has, IsFine}
 use Rattle.mn_grammar.specs.Reading.{Answer, Reader, Site}
 use Rattle.mn_grammar.specs.Lawful.{Spec, IsSite, Lacks, first, answered, answer_of, Sound, IsRead, IsLeft, IsBroken, Said, Complete, Lawful}
+use Rattle.mn_grammar.proofs.Breaks.{none_first, lies_alike}
 use Rattle.mn_grammar.specs.declared.Fault.{Fault}
 use Rattle.mn_grammar.specs.declared.Kind.{Kind}
 
 module _ {X Y V : Type 0} (s : Spec X V) (u : Spec Y V) where
-  -- each tree of s is one of u, and each of u comes from one of s: spelled alike, with the same breaks and value
+  -- each tree of s is one of u, and each of u comes from one of s: spelled alike, with the same first break and value
   pub record IsView : Type 0 where
     pub onto : X → Y
     pub back : Y → X
     pub again : (y : Y) → onto (back y) ≡ y
     pub spell : (x : X) → u.spell (onto x) ≡ s.spell x
-    pub breaks : (x : X) → u.breaks (onto x) ≡ s.breaks x
+    pub breaks : (x : X) → first (u.breaks (onto x)) ≡ first (s.breaks x)
     pub value : (x : X) → u.value (onto x) ≡ s.value x
     pub blocks : (x : X) (t : Terminal) → u.blocks (onto x) t ≡ s.blocks x t
     pub start : u.start ≡ s.start
@@ -23,8 +24,8 @@ module _ {X Y V : Type 0} (s : Spec X V) (u : Spec Y V) (view : IsView s u) wher
   spelled : (y : Y) → s.spell (view.back y) ≡ u.spell y
   spelled y = sym (view.spell (view.back y)) ∙ ap u.spell (view.again y)
 
-  broken : (y : Y) → s.breaks (view.back y) ≡ u.breaks y
-  broken y = sym (view.breaks (view.back y)) ∙ ap u.breaks (view.again y)
+  broken : (y : Y) → first (s.breaks (view.back y)) ≡ first (u.breaks y)
+  broken y = sym (view.breaks (view.back y)) ∙ ap (λ z. first (u.breaks z)) (view.again y)
 
   valued : (y : Y) → s.value (view.back y) ≡ u.value y
   valued y = sym (view.value (view.back y)) ∙ ap u.value (view.again y)
@@ -41,25 +42,25 @@ module _ {X Y V : Type 0} (s : Spec X V) (u : Spec Y V) (view : IsView s u) wher
   lacks_onto x (t ∷ rest) lacks = view.blocks x t ∙ lacks
 
   answer_back : (y : Y) (rest : List Terminal) → answer_of s (view.back y) rest ≡ answer_of u y rest
-  answer_back y rest = λ i. answered (first (broken y i)) (length (spelled y i)) (valued y i) rest
+  answer_back y rest = λ i. answered (broken y i) (length (spelled y i)) (valued y i) rest
 
   pub Sound-view : Sound s → Sound u
   Sound-view sound = record {
-    kinds = λ y place kind has. sound.kinds (view.back y) place kind (subst (λ l. Has l place kind) (sym (broken y)) has);
-    within = λ y place kind has. subst (λ l. place < length l) (spelled y) (sound.within (view.back y) place kind (subst (λ l. Has l place kind) (sym (broken y)) has));
+    kinds = λ y b e. sound.kinds (view.back y) b (broken y ∙ e);
+    within = λ y b e. subst (λ l. b.0 < length l) (spelled y) (sound.within (view.back y) b (broken y ∙ e));
     extends = λ y t e.
         let x = sound.extends (view.back y) t (blocked y t ∙ e) in
         (view.onto x.0, x.1, view.spell x.0 ∙ x.2 ∙ ap (λ l. l ++ t ∷ x.1) (spelled y));
   }
 
   fine_onto : (p : List Terminal) → IsFine s.spell s.breaks p → IsFine u.spell u.breaks p
-  fine_onto p (x, q, e, fine) = (view.onto x, q, view.spell x ∙ e, λ place kind has. fine place kind (subst (λ l. Has l place kind) (view.breaks x) has))
+  fine_onto p (x, q, e, fine) = (view.onto x, q, view.spell x ∙ e, lies_alike (length p) (s.breaks x) (u.breaks (view.onto x)) (sym (view.breaks x)) fine)
 
   pub Said-view : (read : Reader V) (ts : List Terminal) (r : Answer V) → Said s read ts r → Said u read ts r
   Said-view read ts (Ok r) is = record {
     tree = view.onto is.tree;
     parts = is.parts ∙ ap (λ l. l ++ r.1) (sym (view.spell is.tree));
-    kept = view.breaks is.tree ∙ is.kept;
+    kept = none_first (u.breaks (view.onto is.tree)) (view.breaks is.tree ∙ ap first is.kept);
     means = view.value is.tree ∙ is.means;
     ends = lacks_onto is.tree r.1 is.ends;
   }
@@ -85,7 +86,7 @@ module _ {X Y V : Type 0} (s : Spec X V) (u : Spec Y V) (view : IsView s u) wher
     parts = is.parts;
     place = is.place;
     refuses = is.refuses;
-    broken = let x = is.broken in (view.onto x.0, x.1, view.spell x.0 ∙ x.2, ap first (view.breaks x.0) ∙ x.3);
+    broken = let x = is.broken in (view.onto x.0, x.1, view.spell x.0 ∙ x.2, view.breaks x.0 ∙ x.3);
   })
 
   -- what is lawful for s is for u

@@ -81,11 +81,11 @@ module _ {X V : Type 0} (s : Spec X V) where
   abbrev pub answer_of : X → List Terminal → Answer V
   answer_of x rest = answered (first (s.breaks x)) (length (s.spell x)) (s.value x) rest
 
-  -- The trees are in order: what is broken has a condition's kind and lies in the tree, and a token that blocks
+  -- The trees are in order: what is broken first has a condition's kind and lies in the tree, and a token that blocks
   -- goes on with it.
   pub record Sound : Type 0 where
-    pub kinds : (x : X) (place : ℕ) (kind : Kind) → Has (s.breaks x) place kind → is_condition kind ≡ true
-    pub within : (x : X) (place : ℕ) (kind : Kind) → Has (s.breaks x) place kind → place < length (s.spell x)
+    pub kinds : (x : X) (b : Break) → first (s.breaks x) ≡ Some b → is_condition b.1 ≡ true
+    pub within : (x : X) (b : Break) → first (s.breaks x) ≡ Some b → b.0 < length (s.spell x)
     pub extends : (x : X) (t : Terminal) → s.blocks x t ≡ true → (y : X) × (q : List Terminal) × (s.spell y ≡ s.spell x ++ t ∷ q)
 
   -- a value is that of a tree at the front that breaks nothing, and what is left doesn't go on with the tree
