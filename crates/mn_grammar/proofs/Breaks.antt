@@ -1,8 +1,8 @@
 -- Lists of what is broken, and the first of them.
-use Rattle.std.proofs.Common.{◌≡◌, ◌⊎◌, ℕ, ◌+◌, ◌<◌, ◌≤◌, Bool, true, false, cond, ltb, eqb, ◌||◌, ◌&&◌, List, [], ◌∷◌, ◌++◌, get_or, length, Option, Some, None, refl, sym, ap, ap₂, ◌∙◌, subst, inl, inr, ⊎_elim, arith}
+use Rattle.std.proofs.Common.{◌≡◌, ◌⊎◌, ℕ, ◌+◌, ◌<◌, ◌≤◌, Bool, true, false, cond, ltb, eqb, ◌||◌, ◌&&◌, List, [], ◌∷◌, ◌++◌, get_or, length, Option, Some, None, refl, sym, ap, ap₂, ◌∙◌, subst, inl, inr, ⊎_elim, arith, append-nil}
 use Rattle.std.proofs.lemmas.Bool.{cases_Bool, and_parts, or_cases, or_parts, and_cases, ltb-true, ltb-false, eqb-true, eqb-false}
 use Rattle.mn_grammar.specs.Kinds.{rank}
-use Rattle.mn_grammar.specs.Places.{Break, behind, Has}
+use Rattle.mn_grammar.specs.Places.{Break, on, behind, Has}
 use Rattle.mn_grammar.specs.Lawful.{is_before, earlier, first}
 use Rattle.mn_grammar.specs.declared.Kind.{Kind}
 use Rattle.mn_grammar.specs.declared.Kind.TheVariants.{Lex, NumberRange, Unsupported, Syntax, Again, Name, EmptyDomain, Limit, Shape}
@@ -205,3 +205,56 @@ first_lies n bs (Some b) is all = all b.0 b.1 is.0
 -- so two lists with one first lie alike
 pub lies_alike : (n : ℕ) (bs cs : List Break) → first bs ≡ first cs → ((place : ℕ) (kind : Kind) → Has bs place kind → n ≤ place) → (place : ℕ) (kind : Kind) → Has cs place kind → n ≤ place
 lies_alike n bs cs e all = all_behind n cs (first cs) (first_is cs) (subst (λ o. LiesBehind n o) e (first_lies n bs (first bs) (first_is bs) all))
+
+-- the first of two lists is that of their firsts
+abbrev pub first_of_both : Option Break → Option Break → Option Break
+first_of_both None p = p
+first_of_both (Some b) p = Some (earlier b p)
+
+both_is : (bs cs : List Break) (o p : Option Break) → IsFirst bs o → IsFirst cs p → IsFirst (bs ++ cs) (first_of_both o p)
+both_is bs cs None p none is = subst (λ l. IsFirst (l ++ cs) p) (sym none) is
+both_is bs cs (Some b) None is none = subst (λ l. IsFirst l (Some b)) (sym (ap (λ l. bs ++ l) none ∙ append-nil bs)) is
+both_is bs cs (Some b) (Some c) is also = ⊎_elim
+    (λ before. subst (λ d. IsFirst (bs ++ cs) (Some d)) (sym (ap (λ x. cond x c b) before)) (
+      has_back bs cs c.0 c.1 also.0,
+      λ place kind has. ⊎_elim
+          (λ front. not_before_trans c b place kind (before_at c b before) (is.1 place kind front))
+          (λ back. also.1 place kind back)
+          (has_either bs cs place kind has),
+    ))
+    (λ not_before. subst (λ d. IsFirst (bs ++ cs) (Some d)) (sym (ap (λ x. cond x c b) not_before)) (
+      has_front bs cs b.0 b.1 is.0,
+      λ place kind has. ⊎_elim
+          (λ front. is.1 place kind front)
+          (λ back. not_before_trans b c place kind (not_before_at c b not_before) (also.1 place kind back))
+          (has_either bs cs place kind has),
+    ))
+    (cases_Bool (is_before c b))
+
+pub first_append : (bs cs : List Break) → first (bs ++ cs) ≡ first_of_both (first bs) (first cs)
+first_append bs cs = first_unique (bs ++ cs) _ _ (first_is (bs ++ cs)) (both_is bs cs (first bs) (first cs) (first_is bs) (first_is cs))
+
+-- so only the first of a part counts
+pub alike_append : (bs cs ds es : List Break) → first bs ≡ first cs → first ds ≡ first es → first (bs ++ ds) ≡ first (cs ++ es)
+alike_append bs cs ds es e f = first_append bs ds ∙ ap₂ first_of_both e f ∙ sym (first_append cs es)
+
+pub alike_behind : (n : ℕ) (bs cs : List Break) → first bs ≡ first cs → first (behind n bs) ≡ first (behind n cs)
+alike_behind n bs cs e = first_behind n bs ∙ ap (moved n) e ∙ sym (first_behind n cs)
+
+-- two conditions on one token, of which the first has the lesser rank, are one
+abbrev pub or_then : Option Kind → Option Kind → Option Kind
+or_then None d = d
+or_then (Some k) d = Some k
+
+pub on_both : (c d : Option Kind) → ((j k : Kind) → c ≡ Some j → d ≡ Some k → rank j ≤ rank k) → first (on c ++ on d) ≡ first (on (or_then c d))
+on_both None d below = refl
+on_both (Some j) None below = refl
+on_both (Some j) (Some k) below =
+    let le = below j k refl refl in
+    first_unique (on (Some j) ++ on (Some k)) _ _ (first_is (on (Some j) ++ on (Some k))) (
+      inl (refl, refl),
+      λ place kind has. ⊎_elim
+          (λ here. inr (here.0, let e = ap rank here.1 in omega arith))
+          (λ later. ⊎_elim (λ (there : (0 ≡ place) × (k ≡ kind)). inr (there.0, let e = ap rank there.1 in omega arith)) (λ none. absurd none) later)
+          has,
+    )

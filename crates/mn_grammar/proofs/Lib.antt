@@ -10,4 +10,7 @@ pub mod Loops
 pub mod Items
 pub mod Steps
 pub mod Tables
+pub mod Words
+pub mod Nested
 pub mod Exact
+pub mod Example

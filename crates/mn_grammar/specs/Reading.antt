@@ -1,11 +1,11 @@
 -- Readers of token lists, and the parts that they are made of. No public promise speaks of them: they stand
 -- between the definitions of a language and the code that reads it.
-use Rattle.std.specs.Prelude.{ℕ, zero, suc, Bool, not, ◌&&◌, ◌==◌, List, [], ◌∷◌, length, Option, Some, None, Result, Ok, Err, if◌then◌else◌}
+use Rattle.std.specs.Prelude.{ℕ, ℤ, zero, suc, Bool, not, ◌&&◌, ◌==◌, List, [], ◌∷◌, length, Option, Some, None, Result, Ok, Err, if◌then◌else◌}
 use Rattle.mn_lexer.specs.Terminals.{Terminal}
 use Rattle.mn_lexer.specs.declared.LexFault.{LexFault}
 use Rattle.mn_lexer.specs.declared.marks.Mark.{Mark}
 use Rattle.mn_lexer.specs.declared.marks.Mark.TheVariants.{Comma}
-use Rattle.mn_grammar.specs.Tokens.{is_head, is_mark, is_known_head, is_the_mark}
+use Rattle.mn_grammar.specs.Tokens.{is_head, is_mark, is_known_head, is_the_mark, is_the_word, is_the_head, name_of, number_of}
 use Rattle.mn_grammar.specs.Kinds.{kind_at_end}
 use Rattle.mn_grammar.specs.declared.Fault.{Fault}
 use Rattle.mn_grammar.specs.declared.Kind.{Kind}
@@ -91,6 +91,25 @@ which_mark m t = if is_the_mark m t then Some tt else None
 unfoldable pub mark_at : Site → Mark → Option Kind → Reader (Unit {0})
 mark_at s m c = one s (which_mark m) (λ _. c)
 
+-- a name, any number, a certain word or head, each with a condition on it
+unfoldable pub name_at : (List ℕ → Option Kind) → Reader (List ℕ)
+name_at judge = one free name_of judge
+
+unfoldable pub number_at : (ℤ → Option Kind) → Reader ℤ
+number_at judge = one free number_of judge
+
+abbrev pub which_word : List ℕ → Terminal → Option (Unit {0})
+which_word bs t = if is_the_word bs t then Some tt else None
+
+unfoldable pub word_at : List ℕ → Option Kind → Reader (Unit {0})
+word_at bs c = one fixed (which_word bs) (λ _. c)
+
+abbrev pub which_head : List ℕ → Terminal → Option (Unit {0})
+which_head bs t = if is_the_head bs t then Some tt else None
+
+unfoldable pub head_at : List ℕ → Option Kind → Reader (Unit {0})
+head_at bs c = one fixed (which_head bs) (λ _. c)
+
 -- behind an entry of a list: `,`, and the list goes on, or the mark that closes it
 abbrev pub which_end : {S V : Type 0} → Mark → S → V → Terminal → Option (Turn S V)
 which_end shut s v t =
@@ -102,6 +121,14 @@ judge_end comma close (is_done v) = close
 
 unfoldable pub end_at : {S V : Type 0} → Mark → Option Kind → Option Kind → S → V → Reader (Turn S V)
 end_at shut comma close s v = one marks_only (which_end shut s v) (judge_end comma close)
+
+-- a reader of what is never read, and the reader of what stands inside, where it is read
+abbrev pub never : {V : Type 0} → Reader V
+never ts = Err (fault_at ts Syntax)
+
+abbrev pub within : {D V : Type 0} → (D → Reader V) → Option D → Reader V
+within read None = never
+within read (Some d) = read d
 
 -- the whole list
 abbrev pub finished : {V : Type 0} → Answer V → Result V Fault

@@ -1,5 +1,5 @@
 -- What the grammar asks of a single token.
-use Rattle.std.specs.Prelude.{ℕ, Bool, true, false, not, ◌==◌, ◌||◌, ◌&&◌, List, [], ◌∷◌, Option, Some, None, if◌then◌else◌, codes}
+use Rattle.std.specs.Prelude.{◌≡◌, ℕ, ℤ, Bool, true, false, not, ◌==◌, ◌||◌, ◌&&◌, List, [], ◌∷◌, Option, Some, None, if◌then◌else◌, codes}
 use Rattle.std.specs.List.{list_all}
 use Rattle.std.specs.Str.{byte, bytes_eq}
 use Rattle.mn_lexer.specs.Terminals.{Terminal, word, number, head, mark}
@@ -53,3 +53,22 @@ mark_number marks.Dots = 11
 abbrev pub is_the_mark : Mark → Terminal → Bool
 is_the_mark m (mark n) = mark_number n == mark_number m
 is_the_mark m _ = false
+
+-- the number that the token is, if it is one
+abbrev pub number_of : Terminal → Option ℤ
+number_of (number n) = Some n
+number_of _ = None
+
+-- the token is the word, the head of these bytes
+abbrev pub is_the_word : List ℕ → Terminal → Bool
+is_the_word bs (word w) = bytes_eq w bs
+is_the_word bs _ = false
+
+abbrev pub is_the_head : List ℕ → Terminal → Bool
+is_the_head bs (head h) = bytes_eq h bs
+is_the_head bs _ = false
+
+-- a name, by its bytes
+pub record Name : Type 0 where
+  pub bytes : List ℕ
+  pub lawful : is_name bytes ≡ true

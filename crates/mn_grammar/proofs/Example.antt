@@ -1,0 +1,232 @@
+-- A small language, to show how a reader is proved exact: `MINION`, names, `**EOF**`. Each name stands once, and there
+-- are two at most.
+use Rattle.std.proofs.Common.{◌≡◌, ◌⊎◌, ℕ, zero, suc, ◌≤◌, Bool, true, false, cond, ltb, ◌||◌, List, [], ◌∷◌, ◌++◌, length, codes, Option, Some, None, is_some, Ok, Err, Result, refl, sym, ap, ◌∙◌, subst, inl, inr, bytes_eq, if◌then◌else◌, arith}
+use Rattle.mn_lexer.specs.Terminals.{Terminal, word, number, head, mark}
+use Rattle.mn_lexer.specs.declared.LexFault.{LexFault}
+use Rattle.mn_grammar.specs.Tokens.{Name, is_name, name_of, is_head, is_mark, is_the_head}
+use Rattle.mn_grammar.specs.Kinds.{rank, is_condition}
+use Rattle.mn_grammar.specs.Places.{Break, on, behind}
+use Rattle.mn_grammar.specs.Reading.{Reader, Site, mixed, fixed, Turn, goes_on, is_done, one, ret, then_read, loop, word_at, whole}
+use Rattle.mn_grammar.specs.Lawful.{Spec, first, Lawful}
+use Rattle.mn_grammar.specs.Laws.{IsExact}
+use Rattle.mn_grammar.proofs.Breaks.{alike_append, alike_behind, or_then, on_both}
+use Rattle.mn_grammar.proofs.Leaves.{leaf, IsLeaf, Lawful-one}
+use Rattle.mn_grammar.proofs.Words.{name_token, name_of_name, of_name, the_head, a_word_leaf, Lawful-word}
+use Rattle.mn_grammar.proofs.Joins.{joined, Lawful-then}
+use Rattle.mn_grammar.proofs.Steps.{join_leaf, valued, Lawful-valued}
+use Rattle.mn_grammar.proofs.Views.{IsView, Lawful-view}
+use Rattle.mn_grammar.proofs.Loops.{Turns, last, more, turns, Loop, Lawful-loop}
+use Rattle.mn_grammar.proofs.Exact.{exact}
+use Rattle.mn_grammar.specs.declared.Kind.{Kind}
+use Rattle.mn_grammar.specs.declared.Kind.TheVariants as kinds
+use Rattle.mn_grammar.specs.declared.Limit.TheVariants as limits
+
+-- 1. The language: trees and their spelling
+abbrev spell_names : List Name → List Terminal
+spell_names [] = head (codes "**EOF**") ∷ []
+spell_names (n ∷ ns) = word n.bytes ∷ spell_names ns
+
+abbrev spell_text : List Name → List Terminal
+spell_text ns = word (codes "MINION") ∷ spell_names ns
+
+-- 2. Its conditions, each on its token
+abbrev has_bytes : List (List ℕ) → List ℕ → Bool
+has_bytes [] w = false
+has_bytes (v ∷ vs) w = bytes_eq v w || has_bytes vs w
+
+abbrev once : List (List ℕ) → List ℕ → Option Kind
+once seen w = if has_bytes seen w then Some kinds.Name else None
+
+abbrev room : List (List ℕ) → Option Kind
+room seen = if ltb (length seen) 2 then None else Some (kinds.Limit limits.Variables)
+
+abbrev breaks_names : List Name → List (List ℕ) → List Break
+breaks_names [] seen = []
+breaks_names (n ∷ ns) seen = (on (once seen n.bytes) ++ on (room seen)) ++ behind 1 (breaks_names ns (n.bytes ∷ seen))
+
+-- 3. What a text stands for: its names, the last one first
+abbrev value_names : List Name → List (List ℕ) → List (List ℕ)
+value_names [] seen = seen
+value_names (n ∷ ns) seen = value_names ns (n.bytes ∷ seen)
+
+abbrev names_spec : List (List ℕ) → Spec (List Name) (List (List ℕ))
+names_spec seen = record {
+  spell = spell_names;
+  breaks = λ ns. breaks_names ns seen;
+  value = λ ns. value_names ns seen;
+  blocks = λ ns t. false;
+  start = mixed;
+  any = [];
+}
+
+abbrev text_spec : Spec (List Name) (List (List ℕ))
+text_spec = record {
+  spell = spell_text;
+  breaks = λ ns. behind 1 (breaks_names ns []);
+  value = λ ns. value_names ns [];
+  blocks = λ ns t. false;
+  start = fixed;
+  any = [];
+}
+
+-- 4. The reader: a leaf for a name or the end, a loop over it, a leaf before it
+abbrev name_or_end : Terminal → Option (Option (List ℕ))
+name_or_end (word bs) = if is_name bs then Some (Some bs) else None
+name_or_end (head bs) = if bytes_eq bs (codes "**EOF**") then Some None else None
+name_or_end _ = None
+
+abbrev judge : List (List ℕ) → Option (List ℕ) → Option Kind
+judge seen None = None
+judge seen (Some w) = or_then (once seen w) (room seen)
+
+abbrev turn_of : List (List ℕ) → Option (List ℕ) → Turn (List (List ℕ)) (List (List ℕ))
+turn_of seen None = is_done seen
+turn_of seen (Some w) = goes_on (w ∷ seen)
+
+abbrev step : List (List ℕ) → Reader (Turn (List (List ℕ)) (List (List ℕ)))
+step seen = then_read (one mixed name_or_end (judge seen)) (λ o. ret (turn_of seen o))
+
+abbrev read_text : Reader (List (List ℕ))
+read_text = then_read (word_at (codes "MINION") None) (λ u. loop step [])
+
+-- 5. The leaf is a class of tokens
+abbrev token : Name ⊎ Unit {0} → Terminal
+token (inl n) = name_token n
+token (inr u) = head (codes "**EOF**")
+
+abbrev value : Name ⊎ Unit {0} → Option (List ℕ)
+value (inl n) = Some n.bytes
+value (inr u) = None
+
+forth : (a : Name ⊎ Unit {0}) → name_or_end (token a) ≡ Some (value a)
+forth (inl n) = ap (λ b. cond b (Some (Some n.bytes)) None) n.lawful
+forth (inr u) = refl
+
+word_back : (bs : List ℕ) (w : Option (List ℕ)) (b : Bool) → is_name bs ≡ b → cond b (Some (Some bs)) None ≡ Some w → (a : Name ⊎ Unit {0}) × (word bs ≡ token a) × (value a ≡ w)
+word_back bs w true e f = (inl (record { bytes = bs; lawful = e }), refl, cc)
+word_back bs w false e f = cc
+
+head_back : (bs : List ℕ) (w : Option (List ℕ)) (b : Bool) → bytes_eq bs (codes "**EOF**") ≡ b → cond b (Some None) None ≡ Some w → (a : Name ⊎ Unit {0}) × (head bs ≡ token a) × (value a ≡ w)
+head_back bs w true e f = (inr tt, the_head (codes "**EOF**") (head bs) e, cc)
+head_back bs w false e f = cc
+
+back : (t : Terminal) (w : Option (List ℕ)) → name_or_end t ≡ Some w → (a : Name ⊎ Unit {0}) × (t ≡ token a) × (value a ≡ w)
+back (word bs) w e = word_back bs w (is_name bs) refl e
+back (head bs) w e = head_back bs w (bytes_eq bs (codes "**EOF**")) refl e
+back (number n) w e = cc
+back (mark m) w e = cc
+
+names_wanted : (t : Terminal) (w : List ℕ) → name_of t ≡ Some w → is_some (name_or_end t) ≡ true
+names_wanted t w e = let n = of_name t w e in ap (λ u. is_some (name_or_end u)) n.1 ∙ ap (λ o. is_some o) (forth (inl n.0))
+
+rank_below : (seen : List (List ℕ)) (w : List ℕ) (j k : Kind) → once seen w ≡ Some j → room seen ≡ Some k → rank j ≤ rank k
+rank_below seen w j k e f = at (has_bytes seen w) (ltb (length seen) 2) e f
+  where
+    at : (b c : Bool) → cond b (Some kinds.Name) None ≡ Some j → cond c None (Some (kinds.Limit limits.Variables)) ≡ Some k → rank j ≤ rank k
+    at true false e f = let x : kinds.Name ≡ j = cc in let y : kinds.Limit limits.Variables ≡ k = cc in let p = ap rank x in let q = ap rank y in omega arith
+    at true true e f = cc
+    at false c e f = cc
+
+judge_kinds : (seen : List (List ℕ)) (w : Option (List ℕ)) (kind : Kind) → judge seen w ≡ Some kind → is_condition kind ≡ true
+judge_kinds seen None kind e = cc
+judge_kinds seen (Some w) kind e = at (has_bytes seen w) (ltb (length seen) 2) e
+  where
+    at : (b c : Bool) → or_then (cond b (Some kinds.Name) None) (cond c None (Some (kinds.Limit limits.Variables))) ≡ Some kind → is_condition kind ≡ true
+    at true c e = let x : kinds.Name ≡ kind = cc in ap is_condition (sym x)
+    at false true e = cc
+    at false false e = let x : kinds.Limit limits.Variables ≡ kind = cc in ap is_condition (sym x)
+
+abbrev a_turn : List (List ℕ) → Spec (Name ⊎ Unit {0}) (Turn (List (List ℕ)) (List (List ℕ)))
+a_turn seen = valued (turn_of seen) (leaf mixed token value (judge seen) (inr tt))
+
+step_law : (seen : List (List ℕ)) → Lawful (a_turn seen) (step seen)
+step_law seen = Lawful-valued (turn_of seen) (leaf mixed token value (judge seen) (inr tt)) (one mixed name_or_end (judge seen))
+    (Lawful-one mixed token value name_or_end (judge seen) (inr tt) (record {
+      forth = forth;
+      back = back;
+      is_site = ((head (codes "**EOF**"), refl, refl), inl names_wanted);
+      kinds = judge_kinds seen;
+    }))
+
+-- 6. The loop, and its trees as lists of names
+abbrev next : List (List ℕ) → Name → List (List ℕ)
+next seen n = n.bytes ∷ seen
+
+abbrev looped : List (List ℕ) → Spec (Turns Name (Unit {0})) (List (List ℕ))
+looped seen = turns a_turn next (λ s u. s) tt seen
+
+is_loop : Loop a_turn next (λ s u. s) tt
+is_loop = record {
+  goes = λ s n. refl;
+  ends = λ s u. refl;
+  grows = λ s n e. cc;
+  apart = λ s n gs t q e. refl;
+  fits = λ s n. tt;
+  fits_last = λ s u. tt;
+}
+
+abbrev names_onto : Turns Name (Unit {0}) → List Name
+names_onto (last u) = []
+names_onto (more n gs) = n ∷ names_onto gs
+
+abbrev names_back : List Name → Turns Name (Unit {0})
+names_back [] = last tt
+names_back (n ∷ ns) = more n (names_back ns)
+
+names_again : (ns : List Name) → names_onto (names_back ns) ≡ ns
+names_again [] = refl
+names_again (n ∷ ns) = ap (λ l. n ∷ l) (names_again ns)
+
+names_spell : (gs : Turns Name (Unit {0})) (seen : List (List ℕ)) → spell_names (names_onto gs) ≡ (looped seen).spell gs
+names_spell (last u) seen = refl
+names_spell (more n gs) seen = ap (λ l. word n.bytes ∷ l) (names_spell gs (n.bytes ∷ seen))
+
+names_breaks : (gs : Turns Name (Unit {0})) (seen : List (List ℕ)) → first (breaks_names (names_onto gs) seen) ≡ first ((looped seen).breaks gs)
+names_breaks (last u) seen = refl
+names_breaks (more n gs) seen =
+    alike_append (on (once seen n.bytes) ++ on (room seen)) (on (judge seen (Some n.bytes))) _ _
+    (on_both (once seen n.bytes) (room seen) (rank_below seen n.bytes))
+    (alike_behind 1 (breaks_names (names_onto gs) (n.bytes ∷ seen)) ((looped (n.bytes ∷ seen)).breaks gs) (names_breaks gs (n.bytes ∷ seen)))
+
+names_value : (gs : Turns Name (Unit {0})) (seen : List (List ℕ)) → value_names (names_onto gs) seen ≡ (looped seen).value gs
+names_value (last u) seen = refl
+names_value (more n gs) seen = names_value gs (n.bytes ∷ seen)
+
+names_blocks : (gs : Turns Name (Unit {0})) (seen : List (List ℕ)) (t : Terminal) → false ≡ (looped seen).blocks gs t
+names_blocks (last u) seen t = refl
+names_blocks (more n gs) seen t = names_blocks gs (n.bytes ∷ seen) t
+
+names_law : (seen : List (List ℕ)) → Lawful (names_spec seen) (loop step seen)
+names_law seen = Lawful-view (looped seen) (names_spec seen)
+    (record {
+      onto = names_onto;
+      back = names_back;
+      again = names_again;
+      spell = λ gs. names_spell gs seen;
+      breaks = λ gs. names_breaks gs seen;
+      value = λ gs. names_value gs seen;
+      blocks = λ gs t. names_blocks gs seen t;
+      start = refl;
+    })
+    (loop step seen) (Lawful-loop a_turn next (λ s u. s) tt is_loop step step_law seen)
+
+-- 7. The text: the word, and the names behind it
+text_law : Lawful text_spec read_text
+text_law = Lawful-view (joined (a_word_leaf (codes "MINION") None) (λ u. names_spec [])) text_spec
+    (record {
+      onto = λ p. p.1;
+      back = λ ns. (tt, ns);
+      again = λ ns. refl;
+      spell = λ p. refl;
+      breaks = λ p. refl;
+      value = λ p. refl;
+      blocks = λ p t. refl;
+      start = refl;
+    })
+    read_text
+    (Lawful-then (a_word_leaf (codes "MINION") None) (λ u. names_spec []) (join_leaf fixed (λ u. word (codes "MINION")) (λ u. u) (λ u. None) tt (λ u. names_spec []))
+        (word_at (codes "MINION") None) (λ u. loop step []) (Lawful-word (codes "MINION") None refl (λ kind e. cc)) (λ u. (names_law []).sound) (λ u kept. names_law []))
+
+-- 8. So it accepts exactly the texts, and refuses all other lists at their place
+pub example_is_exact : (stop : Option LexFault) → IsExact text_spec stop (whole stop read_text)
+example_is_exact stop = exact text_spec stop read_text text_law (λ ns t. refl)
