@@ -17,6 +17,8 @@ use Rattle.mn_grammar.proofs.Steps.{join_leaf, valued, Lawful-valued}
 use Rattle.mn_grammar.proofs.Views.{IsView, Lawful-view}
 use Rattle.mn_grammar.proofs.Loops.{Turns, last, more, turns, Loop, Lawful-loop}
 use Rattle.mn_grammar.proofs.Exact.{exact}
+use Rattle.mn_lexer.specs.declared.LexFault.TheVariants as stop
+use Rattle.mn_grammar.specs.declared.Fault.{Fault}
 use Rattle.mn_grammar.specs.declared.Kind.{Kind}
 use Rattle.mn_grammar.specs.declared.Kind.TheVariants as kinds
 use Rattle.mn_grammar.specs.declared.Limit.TheVariants as limits
@@ -230,3 +232,49 @@ text_law = Lawful-view (joined (a_word_leaf (codes "MINION") None) (λ u. names_
 -- 8. So it accepts exactly the texts, and refuses all other lists at their place
 pub example_is_exact : (stop : Option LexFault) → IsExact text_spec stop (whole stop read_text)
 example_is_exact stop = exact text_spec stop read_text text_law (λ ns t. refl)
+
+-- 9. And what it answers computes
+abbrev minion : Terminal
+minion = word (codes "MINION")
+
+abbrev end : Terminal
+end = head (codes "**EOF**")
+
+abbrev answer : List Terminal → Result (List (List ℕ)) Fault
+answer ts = whole None read_text ts
+
+two_names : answer (minion ∷ word (codes "x") ∷ word (codes "y") ∷ end ∷ []) ≡ Ok (codes "y" ∷ codes "x" ∷ [])
+unfolding loop word_at
+two_names = refl
+
+a_name_twice : answer (minion ∷ word (codes "x") ∷ word (codes "x") ∷ end ∷ []) ≡ Err (record { left = 2; kind = kinds.Name })
+unfolding loop word_at
+a_name_twice = refl
+
+three_names : answer (minion ∷ word (codes "x") ∷ word (codes "y") ∷ word (codes "z") ∷ end ∷ []) ≡ Err (record { left = 2; kind = kinds.Limit limits.Variables })
+unfolding loop word_at
+three_names = refl
+
+a_head : answer (minion ∷ head (codes "**END**") ∷ []) ≡ Err (record { left = 1; kind = kinds.Unsupported })
+unfolding loop word_at
+a_head = refl
+
+a_known_head : answer (minion ∷ head (codes "**SEARCH**") ∷ []) ≡ Err (record { left = 1; kind = kinds.Syntax })
+unfolding loop word_at
+a_known_head = refl
+
+another_word : answer (word (codes "MAXION") ∷ []) ≡ Err (record { left = 1; kind = kinds.Unsupported })
+unfolding loop word_at
+another_word = refl
+
+no_end : answer (minion ∷ word (codes "x") ∷ []) ≡ Err (record { left = 0; kind = kinds.Syntax })
+unfolding loop word_at
+no_end = refl
+
+more_tokens : answer (minion ∷ end ∷ end ∷ []) ≡ Err (record { left = 1; kind = kinds.Syntax })
+unfolding loop word_at
+more_tokens = refl
+
+a_lexical_fault : whole (Some (stop.NumberRange 9)) read_text (minion ∷ []) ≡ Err (record { left = 0; kind = kinds.NumberRange })
+unfolding loop word_at
+a_lexical_fault = refl

@@ -38,8 +38,8 @@ module _ {A S V : Type 0} (shut : Mark) (j : Judge A S V) (blocks : A → Termin
     pub marks : (a : A) → OnlyMarks (blocks a)
     pub no_comma : (a : A) → blocks a (mark Comma) ≡ false
     pub no_shut : (a : A) → blocks a (mark shut) ≡ false
-    pub comma_kinds : (s : S) (v : V) (kind : Kind) → j.comma s v ≡ Some kind → is_condition kind ≡ true
-    pub close_kinds : (s : S) (v : V) (kind : Kind) → j.close s v ≡ Some kind → is_condition kind ≡ true
+    pub comma_kinds : (s : S) (v : V) (kind : Kind) → j.ends.comma s v ≡ Some kind → is_condition kind ≡ true
+    pub close_kinds : (s : S) (v : V) (kind : Kind) → j.ends.close s v ≡ Some kind → is_condition kind ≡ true
 
 module _ {A S V R : Type 0} (shut : Mark) (j : Judge A S V) (blocks : A → Terminal → Bool) (start : Site) (some : A) (result : S → V → R) where
   -- the trees of a list
@@ -58,7 +58,7 @@ module _ {A S V R : Type 0} (shut : Mark) (j : Judge A S V) (blocks : A → Term
     entry s = entry_spec shut j blocks start some s
 
     abbrev end_of : (s : S) → A → Spec Bool (Turn S R)
-    end_of s a = let v = j.value s a in an_end shut (j.comma s v) (j.close s v) (j.next s v) (result s v)
+    end_of s a = let v = j.value s a in an_end shut (j.ends.comma s v) (j.ends.close s v) (j.ends.next s v) (result s v)
 
     end_apart : (a : A) (x : Bool) (t : Terminal) (q : List Terminal) → end_token shut x ∷ [] ≡ t ∷ q → blocks a t ≡ false
     end_apart a true t q e = let same : mark Comma ≡ t = cc in subst (λ u. blocks a u ≡ false) same (are.no_comma a)
@@ -77,11 +77,11 @@ module _ {A S V R : Type 0} (shut : Mark) (j : Judge A S V) (blocks : A → Term
     spell_turn (inr a) = j.spell a ++ mark shut ∷ []
 
     abbrev breaks_turn : S → A ⊎ A → List Break
-    breaks_turn s (inl a) = j.breaks s a ++ behind (length (j.spell a)) (on (j.comma s (j.value s a)))
-    breaks_turn s (inr a) = j.breaks s a ++ behind (length (j.spell a)) (on (j.close s (j.value s a)))
+    breaks_turn s (inl a) = j.breaks s a ++ behind (length (j.spell a)) (on (j.ends.comma s (j.value s a)))
+    breaks_turn s (inr a) = j.breaks s a ++ behind (length (j.spell a)) (on (j.ends.close s (j.value s a)))
 
     abbrev value_turn : S → A ⊎ A → Turn S R
-    value_turn s (inl a) = goes_on (j.next s (j.value s a))
+    value_turn s (inl a) = goes_on (j.ends.next s (j.value s a))
     value_turn s (inr a) = is_done (result s (j.value s a))
 
     abbrev turn : S → Spec (A ⊎ A) (Turn S R)
@@ -131,7 +131,7 @@ module _ {A S V R : Type 0} (shut : Mark) (j : Judge A S V) (blocks : A → Term
     }
 
     abbrev next_of : S → A → S
-    next_of s a = j.next s (j.value s a)
+    next_of s a = j.ends.next s (j.value s a)
 
     abbrev result_of : S → A → R
     result_of s a = result s (j.value s a)
@@ -174,7 +174,7 @@ module _ {A S V R : Type 0} (shut : Mark) (j : Judge A S V) (blocks : A → Term
     view_breaks (last a) s = refl
     view_breaks (more a gs) s =
         let n = length (j.spell a) in
-        let here = on (j.comma s (j.value s a)) in
+        let here = on (j.ends.comma s (j.value s a)) in
         let rest = breaks_items j (onto gs) (next_of s a) in
         let size : n + 1 ≡ length (j.spell a ++ mark Comma ∷ []) = sym (length-append (j.spell a) (mark Comma ∷ [])) in
         ap (λ l. j.breaks s a ++ l) (behind_append n here (behind 1 rest) ∙ ap (λ l. behind n here ++ l) (behind_behind n 1 rest))
@@ -202,22 +202,22 @@ module _ {A S V R : Type 0} (shut : Mark) (j : Judge A S V) (blocks : A → Term
     }
 
     module _ (read : S → Reader V) (law : (s : S) → Lawful (entry_spec shut j blocks start some s) (read s)) where
-      turn_law : (s : S) → Lawful (turn s) (turn_at shut j result read s)
+      turn_law : (s : S) → Lawful (turn s) (turn_at shut j.ends result read s)
       turn_law s =
-          Lawful-view (joined (entry s) (end_of s)) (turn s) (turn_view s) (turn_at shut j result read s)
-          (Lawful-then (entry s) (end_of s) (end_join s) (read s) (λ v. end_at shut (j.comma s v) (j.close s v) (j.next s v) (result s v)) (law s)
+          Lawful-view (joined (entry s) (end_of s)) (turn s) (turn_view s) (turn_at shut j.ends result read s)
+          (Lawful-then (entry s) (end_of s) (end_join s) (read s) (λ v. end_at shut (j.ends.comma s v) (j.ends.close s v) (j.ends.next s v) (result s v)) (law s)
               (λ a. (end_law a).sound)
               (λ a kept. end_law a))
         where
-          end_law : (a : A) → Lawful (end_of s a) (let v = j.value s a in end_at shut (j.comma s v) (j.close s v) (j.next s v) (result s v))
-          end_law a = let v = j.value s a in Lawful-end shut (j.comma s v) (j.close s v) (j.next s v) (result s v) are.other (are.comma_kinds s v) (are.close_kinds s v)
+          end_law : (a : A) → Lawful (end_of s a) (let v = j.value s a in end_at shut (j.ends.comma s v) (j.ends.close s v) (j.ends.next s v) (result s v))
+          end_law a = let v = j.value s a in Lawful-end shut (j.ends.comma s v) (j.ends.close s v) (j.ends.next s v) (result s v) are.other (are.comma_kinds s v) (are.close_kinds s v)
 
       -- a list of lawful entries is lawful
-      pub Lawful-items : (s : S) → Lawful (items_spec s) (items_at shut j result read s)
+      pub Lawful-items : (s : S) → Lawful (items_spec s) (items_at shut j.ends result read s)
       unfolding items_at
       Lawful-items s =
-          Lawful-view (looped s) (items_spec s) (view s) (loop (turn_at shut j result read) s)
-          (Lawful-loop turn next_of result_of some is_loop (turn_at shut j result read) turn_law s)
+          Lawful-view (looped s) (items_spec s) (view s) (loop (turn_at shut j.ends result read) s)
+          (Lawful-loop turn next_of result_of some is_loop (turn_at shut j.ends result read) turn_law s)
 
 -- the front of two lists, where the first isn't empty
 front_of : (l m : List Terminal) (t : Terminal) (q : List Terminal) → (l ≡ [] → ⊥) → l ++ m ≡ t ∷ q → (r : List Terminal) × (l ≡ t ∷ r)
@@ -294,9 +294,9 @@ module _ {A S V R : Type 0} (shut : Mark) (j : Judge A S V) (blocks : A → Term
       }
 
       -- a list that may be empty, of lawful entries, is lawful
-      pub Lawful-maybe : (read : S → Reader V) → ((z : S) → Lawful (entry_spec shut j blocks start some z) (read z)) → Lawful (maybe_spec s) (maybe_at shut j empty none result read s)
+      pub Lawful-maybe : (read : S → Reader V) → ((z : S) → Lawful (entry_spec shut j blocks start some z) (read z)) → Lawful (maybe_spec s) (maybe_at shut j.ends empty none result read s)
       unfolding maybe_at
       Lawful-maybe read law =
-          Lawful-view (either (is_the_mark shut) shut_spec listed) (maybe_spec s) maybe_view (maybe_at shut j empty none result read s)
-          (Lawful-or (is_the_mark shut) shut_spec listed choice (then_read (mark_at marks_only shut empty) (λ u. ret none)) (items_at shut j result read s)
+          Lawful-view (either (is_the_mark shut) shut_spec listed) (maybe_spec s) maybe_view (maybe_at shut j.ends empty none result read s)
+          (Lawful-or (is_the_mark shut) shut_spec listed choice (then_read (mark_at marks_only shut empty) (λ u. ret none)) (items_at shut j.ends result read s)
               shut_law (Lawful-items shut j blocks start some result are read law s))
