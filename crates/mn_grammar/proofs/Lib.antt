@@ -14,3 +14,4 @@ pub mod Words
 pub mod Nested
 pub mod Exact
 pub mod Example
+pub mod ExampleForms

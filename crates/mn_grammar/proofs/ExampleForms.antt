@@ -1,0 +1,397 @@
+-- Another small language: `less(1,2)` and `any{..}` of any number of forms, one within another. It shows a row of
+-- arguments with a condition on the values so far, a list that may be empty, and nesting to a depth.
+use Rattle.std.proofs.Common.{◌≡◌, ◌⊎◌, ℕ, ℤ, zero, suc, ◌+◌, ◌<◌, Bool, true, false, cond, ◌||◌, List, [], ◌∷◌, ◌++◌, length, codes, pos, int_lt, Option, Some, None, is_some, Ok, Err, Result, refl, sym, ap, ap₂, ◌∙◌, subst, inl, inr, bytes_eq, if◌then◌else◌, arith, append-nil}
+use Rattle.mn_lexer.specs.Terminals.{Terminal, word, number, head, mark}
+use Rattle.mn_lexer.specs.declared.marks.Mark.TheVariants.{OpenCurly, CloseCurly, OpenRound, CloseRound, Comma}
+use Rattle.mn_grammar.specs.Tokens.{is_the_mark, is_the_word}
+use Rattle.mn_grammar.specs.Kinds.{is_condition}
+use Rattle.mn_grammar.specs.Places.{Break, on, behind}
+use Rattle.mn_grammar.specs.Reading.{Reader, Site, fixed, free, marks_only, one, ret, then_read, loop, mark_at, end_at, number_at, never, within, whole}
+use Rattle.mn_grammar.specs.Lawful.{Spec, first, Sound, Lawful}
+use Rattle.mn_grammar.specs.Lists.{Items, final, also, spell_items, spell_maybe, Ends, Judge, breaks_items, value_items, breaks_maybe, value_maybe, items_at, maybe_at}
+use Rattle.mn_grammar.specs.Rows.{Sorts, Arguments, row_at}
+use Rattle.mn_grammar.proofs.Breaks.{behind_behind, alike_append, alike_behind}
+use Rattle.mn_grammar.proofs.Leaves.{leaf, IsLeaf, Lawful-one}
+use Rattle.mn_grammar.proofs.Words.{Lawful-number, the_word}
+use Rattle.mn_grammar.proofs.Joins.{joined, Join}
+use Rattle.mn_grammar.proofs.Steps.{join_leaf, valued, Lawful-valued, mark_then, Lawful-mark_then}
+use Rattle.mn_grammar.proofs.Views.{IsView}
+use Rattle.mn_grammar.proofs.Items.{Entries, maybe_spec, Lawful-maybe}
+use Rattle.mn_grammar.proofs.Tables.{AreSorts, row_spec, row_law}
+use Rattle.mn_grammar.proofs.Nested.{unread, Sound-unread, behind_name, IsNested, nest_law}
+use Rattle.mn_grammar.specs.declared.Fault.{Fault}
+use Rattle.mn_grammar.specs.declared.Kind.{Kind}
+use Rattle.mn_grammar.specs.declared.Kind.TheVariants as kinds
+use Rattle.mn_grammar.specs.declared.Limit.TheVariants as limits
+
+-- 1. The language: trees, spelling, conditions by the depth that is left, and the number of `less` as the value
+mutual
+  data Form : Type 0 where
+    less : ℤ → ℤ → Form
+    any_of_none : Form
+    any_of : Forms → Form
+
+  data Forms : Type 0 where
+    only : Form → Forms
+    and_more : Form → Forms → Forms
+
+abbrev mutual
+  spell_form : Form → List Terminal
+  spell_form (less a b) =
+      word (codes "less") ∷ mark OpenRound ∷ number a ∷ mark Comma ∷ number b ∷ mark CloseRound ∷ []
+  spell_form any_of_none = word (codes "any") ∷ mark OpenCurly ∷ mark CloseCurly ∷ []
+  spell_form (any_of fs) = word (codes "any") ∷ mark OpenCurly ∷ spell_forms fs
+
+  spell_forms : Forms → List Terminal
+  spell_forms (only f) = spell_form f ++ mark CloseCurly ∷ []
+  spell_forms (and_more f fs) = spell_form f ++ mark Comma ∷ spell_forms fs
+
+abbrev in_order : ℤ → ℤ → Option Kind
+in_order a b = if int_lt b a then Some kinds.Shape else None
+
+abbrev deep : ℕ → Option Kind
+deep zero = Some (kinds.Limit limits.Nesting)
+deep (suc d) = None
+
+abbrev mutual
+  breaks_form : Form → ℕ → List Break
+  breaks_form (less a b) d = behind 5 (on (in_order a b))
+  breaks_form any_of_none d = on (deep d)
+  breaks_form (any_of fs) zero = on (deep zero)
+  breaks_form (any_of fs) (suc d) = behind 2 (breaks_forms fs d)
+
+  breaks_forms : Forms → ℕ → List Break
+  breaks_forms (only f) d = breaks_form f d
+  breaks_forms (and_more f fs) d = breaks_form f d ++ behind (length (spell_form f)) (behind 1 (breaks_forms fs d))
+
+abbrev mutual
+  value_form : Form → ℕ
+  value_form (less a b) = 1
+  value_form any_of_none = 0
+  value_form (any_of fs) = value_forms fs 0
+
+  value_forms : Forms → ℕ → ℕ
+  value_forms (only f) n = n + value_form f
+  value_forms (and_more f fs) n = value_forms fs (n + value_form f)
+
+abbrev form_spec : ℕ → Spec Form ℕ
+form_spec d = record {
+  spell = spell_form;
+  breaks = λ f. breaks_form f d;
+  value = value_form;
+  blocks = λ f t. false;
+  start = fixed;
+  any = any_of_none;
+}
+
+-- 2. The sorts of argument, the marks of a list, the names
+data Sort : Type 0 where
+  a_num : Sort
+
+abbrev Num : Sort → Type 0
+Num s = ℤ
+
+abbrev behind_num : Sort → List ℤ → Option Kind
+behind_num s (a ∷ b ∷ []) = in_order a b
+behind_num s _ = None
+
+abbrev sorts : Sorts Sort ℤ Num
+sorts = record {
+  spell = λ s z. number z ∷ [];
+  breaks = λ s vs z. [];
+  value = λ s vs z. z;
+  on_mark = behind_num;
+}
+
+abbrev row : List Sort
+row = a_num ∷ a_num ∷ []
+
+abbrev summed : Ends ℕ ℕ
+summed = record { next = λ n v. n + v; comma = λ n v. None; close = λ n v. None }
+
+abbrev sum_of : ℕ → ℕ → ℕ
+sum_of n v = n + v
+
+abbrev token : Bool → Terminal
+token true = word (codes "any")
+token false = word (codes "less")
+
+abbrev which_form : Terminal → Option Bool
+which_form t = if is_the_word (codes "any") t then Some true else (if is_the_word (codes "less") t then Some false else None)
+
+abbrev judge : ℕ → Bool → Option Kind
+judge d true = deep d
+judge d false = None
+
+-- 3. The reader
+abbrev name_at : ℕ → Reader Bool
+name_at d = one fixed which_form (judge d)
+
+abbrev after_at : ℕ → Reader ℕ → Bool → Reader ℕ
+after_at d inside true = then_read (mark_at marks_only OpenCurly None) (λ u. maybe_at CloseCurly summed None 0 sum_of (λ n. inside) 0)
+after_at d inside false =
+    then_read (mark_at marks_only OpenRound None) (λ u. then_read (row_at behind_num (λ s vs. number_at (λ z. None)) row) (λ vs. ret 1))
+
+abbrev form_at : ℕ → Reader ℕ
+form_at zero = then_read (name_at zero) (after_at zero never)
+form_at (suc d) = then_read (name_at (suc d)) (after_at (suc d) (form_at d))
+
+-- 4. What it reads: a name, and what follows
+abbrev Behind : Bool → Type 0
+Behind true = Option (Items Form)
+Behind false = Arguments Num row
+
+abbrev judge_of : Spec Form ℕ → Judge Form ℕ ℕ
+judge_of s = record { spell = s.spell; breaks = λ n. s.breaks; value = λ n. s.value; ends = summed }
+
+abbrev listed : Spec Form ℕ → Spec (Option (Items Form)) ℕ
+listed s = maybe_spec CloseCurly (judge_of s) s.blocks s.start s.any None 0 sum_of 0
+
+abbrev numbers : Spec (Arguments Num row) (List ℤ)
+numbers = row_spec sorts (λ s z t. false) (λ s. free) (λ s. pos 0) row
+
+abbrev after : ℕ → Spec Form ℕ → (b : Bool) → Spec (Behind b) ℕ
+after d s true = mark_then OpenCurly None (listed s)
+after d s false = mark_then OpenRound None (valued (λ vs. 1) numbers)
+
+abbrev at_last : ℕ → (b : Bool) → Spec (Behind b) ℕ
+at_last d true = unread (λ l. mark OpenCurly ∷ spell_maybe CloseCurly spell_form l) (λ l. value_maybe (judge_of (form_spec d)) 0 sum_of l 0) marks_only None
+at_last d false = mark_then OpenRound None (valued (λ vs. 1) numbers)
+
+abbrev inner : ℕ → Option ℕ
+inner zero = None
+inner (suc d) = Some d
+
+abbrev name : ℕ → Spec Bool Bool
+name d = leaf fixed token (λ b. b) (judge d) false
+
+abbrev following : (d : ℕ) → (b : Bool) → Spec (Behind b) ℕ
+following d = behind_name after at_last form_spec d (inner d)
+
+abbrev pairs : ℕ → Spec ((b : Bool) × Behind b) ℕ
+pairs d = joined (name d) (following d)
+
+-- 5. The same trees
+forms_of : Items Form → Forms
+forms_of (final f) = only f
+forms_of (also f l) = and_more f (forms_of l)
+
+items_of : Forms → Items Form
+items_of (only f) = final f
+items_of (and_more f fs) = also f (items_of fs)
+
+forms_again : (fs : Forms) → forms_of (items_of fs) ≡ fs
+unfolding forms_of items_of
+forms_again (only f) = refl
+forms_again (and_more f fs) = ap (λ r. and_more f r) (forms_again fs)
+
+forms_spell : (l : Items Form) → spell_forms (forms_of l) ≡ spell_items CloseCurly spell_form l
+unfolding forms_of
+forms_spell (final f) = refl
+forms_spell (also f l) = ap (λ r. spell_form f ++ mark Comma ∷ r) (forms_spell l)
+
+forms_breaks : (l : Items Form) (d n : ℕ) → first (breaks_forms (forms_of l) d) ≡ first (breaks_items (judge_of (form_spec d)) l n)
+unfolding forms_of
+forms_breaks (final f) d n = ap first (sym (append-nil (breaks_form f d)))
+forms_breaks (also f l) d n =
+    alike_append (breaks_form f d) (breaks_form f d) _ _ refl
+    (alike_behind (length (spell_form f)) _ _ (alike_behind 1 (breaks_forms (forms_of l) d) (breaks_items (judge_of (form_spec d)) l (n + value_form f)) (forms_breaks l d (n + value_form f))))
+
+forms_value : (l : Items Form) (d n : ℕ) → value_forms (forms_of l) n ≡ value_items (judge_of (form_spec d)) sum_of l n
+unfolding forms_of
+forms_value (final f) d n = refl
+forms_value (also f l) d n = forms_value l d (n + value_form f)
+
+abbrev onto : (b : Bool) → Behind b → Form
+onto true None = any_of_none
+onto true (Some l) = any_of (forms_of l)
+onto false p = less p.0 p.1.0
+
+abbrev back : Form → (b : Bool) × Behind b
+back (less a b) = (false, (a, (b, tt)))
+back any_of_none = (true, None)
+back (any_of fs) = (true, Some (items_of fs))
+
+again : (f : Form) → onto (back f).0 (back f).1 ≡ f
+again (less a b) = refl
+again any_of_none = refl
+again (any_of fs) = ap (λ r. any_of r) (forms_again fs)
+
+view_spell : (d : ℕ) (b : Bool) (y : Behind b) → spell_form (onto b y) ≡ (pairs d).spell (b, y)
+view_spell zero true None = refl
+view_spell (suc d) true None = refl
+view_spell zero true (Some l) = ap (λ r. word (codes "any") ∷ mark OpenCurly ∷ r) (forms_spell l)
+view_spell (suc d) true (Some l) = ap (λ r. word (codes "any") ∷ mark OpenCurly ∷ r) (forms_spell l)
+view_spell zero false p = refl
+view_spell (suc d) false p = refl
+
+fifth : (c : Option Kind) → behind 5 (on c) ≡ behind 1 (behind 1 (behind 1 (behind 1 (behind 1 (on c)))))
+fifth None = refl
+fifth (Some k) = refl
+
+view_breaks : (d : ℕ) (b : Bool) (y : Behind b) → first (breaks_form (onto b y) d) ≡ first ((pairs d).breaks (b, y))
+view_breaks zero true None = refl
+view_breaks (suc d) true None = refl
+view_breaks zero true (Some l) = refl
+view_breaks (suc d) true (Some l) =
+    alike_behind 2 _ _ (forms_breaks l d 0) ∙ ap first (sym (behind_behind 1 1 (breaks_items (judge_of (form_spec d)) l 0)))
+view_breaks zero false p = ap first (fifth (in_order p.0 p.1.0))
+view_breaks (suc d) false p = ap first (fifth (in_order p.0 p.1.0))
+
+view_value : (d : ℕ) (b : Bool) (y : Behind b) → value_form (onto b y) ≡ (pairs d).value (b, y)
+view_value zero true None = refl
+view_value (suc d) true None = refl
+view_value zero true (Some l) = forms_value l zero 0
+view_value (suc d) true (Some l) = forms_value l d 0
+view_value zero false p = refl
+view_value (suc d) false p = refl
+
+view_blocks : (d : ℕ) (b : Bool) (y : Behind b) (t : Terminal) → false ≡ (pairs d).blocks (b, y) t
+view_blocks zero true y t = refl
+view_blocks (suc d) true y t = refl
+view_blocks zero false y t = refl
+view_blocks (suc d) false y t = refl
+
+view : (d : ℕ) → IsView (pairs d) (form_spec d)
+view d = record {
+  onto = λ p. onto p.0 p.1;
+  back = back;
+  again = again;
+  spell = λ p. view_spell d p.0 p.1;
+  breaks = λ p. view_breaks d p.0 p.1;
+  value = λ p. view_value d p.0 p.1;
+  blocks = λ p t. view_blocks d p.0 p.1 t;
+  start = refl;
+}
+
+-- 6. The names are a class of tokens
+forth : (b : Bool) → which_form (token b) ≡ Some b
+forth true = refl
+forth false = refl
+
+name_back : (t : Terminal) (w b c : Bool) → is_the_word (codes "any") t ≡ b → is_the_word (codes "less") t ≡ c → cond b (Some true) (cond c (Some false) None) ≡ Some w → (x : Bool) × (t ≡ token x) × (x ≡ w)
+name_back t w true c e f same = (true, the_word (codes "any") t e, cc)
+name_back t w false true e f same = (false, the_word (codes "less") t f, cc)
+name_back t w false false e f same = cc
+
+judge_kinds : (d : ℕ) (b : Bool) (kind : Kind) → judge d b ≡ Some kind → is_condition kind ≡ true
+judge_kinds zero true kind e = let same : kinds.Limit limits.Nesting ≡ kind = cc in ap is_condition (sym same)
+judge_kinds (suc d) true kind e = cc
+judge_kinds d false kind e = cc
+
+name_law : (d : ℕ) → Lawful (name d) (name_at d)
+name_law d = Lawful-one fixed token (λ b. b) which_form (judge d) false (record {
+  forth = forth;
+  back = λ t w e. name_back t w (is_the_word (codes "any") t) (is_the_word (codes "less") t) refl refl e;
+  is_site = ((refl, refl), (word (codes "any"), refl, refl));
+  kinds = judge_kinds d;
+})
+
+-- 7. What follows a name is lawful: a row of numbers, or a list of forms
+behind_kinds : (s : Sort) (vs : List ℤ) (kind : Kind) → behind_num s vs ≡ Some kind → is_condition kind ≡ true
+behind_kinds s [] kind e = cc
+behind_kinds s (a ∷ []) kind e = cc
+behind_kinds s (a ∷ b ∷ c ∷ vs) kind e = cc
+behind_kinds s (a ∷ b ∷ []) kind e = at (int_lt b a) e
+  where
+    at : (x : Bool) → cond x (Some kinds.Shape) None ≡ Some kind → is_condition kind ≡ true
+    at true e = let same : kinds.Shape ≡ kind = cc in ap is_condition (sym same)
+    at false e = cc
+
+numbers_law : Lawful numbers (row_at behind_num (λ s vs. number_at (λ z. None)) row)
+numbers_law = row_law sorts (λ s z t. false) (λ s. free) (λ s. pos 0)
+    (record {
+      solid = λ s z e. cc;
+      marks = λ s z t e. refl;
+      no_comma = λ s z. refl;
+      no_shut = λ s z. refl;
+      mark_kinds = behind_kinds;
+    })
+    (λ s vs. number_at (λ z. None)) (λ s vs. Lawful-number (λ z. None) (λ z kind e. cc)) row
+
+less_law : Lawful {V = ℕ} (mark_then OpenRound None (valued (λ vs. 1) numbers)) (then_read (mark_at marks_only OpenRound None) (λ u. then_read (row_at behind_num (λ s vs. number_at (λ z. None)) row) (λ vs. ret 1)))
+less_law =
+    let law = Lawful-valued (λ vs. 1) numbers (row_at behind_num (λ s vs. number_at (λ z. None)) row) numbers_law in
+    Lawful-mark_then OpenRound None (λ kind e. cc) (valued (λ vs. 1) numbers) _ law.sound (λ kept. law)
+
+form_solid : (f : Form) → spell_form f ≡ [] → ⊥
+form_solid (less a b) e = cc
+form_solid any_of_none e = cc
+form_solid (any_of fs) e = cc
+
+form_not_shut : (f : Form) (t : Terminal) (q : List Terminal) → spell_form f ≡ t ∷ q → is_the_mark CloseCurly t ≡ false
+form_not_shut (less a b) t q e = let same : word (codes "less") ≡ t = cc in ap (is_the_mark CloseCurly) (sym same)
+form_not_shut any_of_none t q e = let same : word (codes "any") ≡ t = cc in ap (is_the_mark CloseCurly) (sym same)
+form_not_shut (any_of fs) t q e = let same : word (codes "any") ≡ t = cc in ap (is_the_mark CloseCurly) (sym same)
+
+any_law : (d : ℕ) (read : Reader ℕ) → Lawful (form_spec d) read → Lawful (mark_then OpenCurly None (listed (form_spec d))) (then_read (mark_at marks_only OpenCurly None) (λ u. maybe_at CloseCurly summed None 0 sum_of (λ n. read) 0))
+any_law d read law =
+    let list = Lawful-maybe CloseCurly (judge_of (form_spec d)) (λ f t. false) fixed any_of_none None 0 sum_of
+            (record {
+              other = refl;
+              solid = form_solid;
+              marks = λ f t e. refl;
+              no_comma = λ f. refl;
+              no_shut = λ f. refl;
+              comma_kinds = λ n v kind e. cc;
+              close_kinds = λ n v kind e. cc;
+            })
+            form_not_shut (λ kind e. cc) 0 (λ n. read) (λ n. law) in
+    Lawful-mark_then OpenCurly None (λ kind e. cc) (listed (form_spec d)) (maybe_at CloseCurly summed None 0 sum_of (λ n. read) 0) list.sound (λ kept. list)
+
+deeper : (d e : ℕ) → inner d ≡ Some e → Lawful (form_spec e) (form_at e) → (b : Bool) → Lawful (after d (form_spec e) b) (after_at d (form_at e) b)
+deeper d e same law true = any_law e (form_at e) law
+deeper d e same law false = less_law
+
+deepest : (d : ℕ) → inner d ≡ None → (b : Bool) → Sound (at_last d b)
+deepest d same true = Sound-unread _ _ marks_only None
+deepest d same false = less_law.sound
+
+deepest_reads : (d : ℕ) → inner d ≡ None → (b : Bool) → (name d).breaks b ≡ [] → Lawful (at_last d b) (after_at d never b)
+deepest_reads zero same true kept = absurd cc
+deepest_reads (suc d) same true kept = absurd cc
+deepest_reads d same false kept = less_law
+
+smaller : (d e : ℕ) → inner d ≡ Some e → e < d
+smaller zero e same = cc
+smaller (suc d) e same = let x : d ≡ e = cc in omega arith
+
+turn : (d : ℕ) (ts : List Terminal) → then_read (name_at d) (after_at d (within form_at (inner d))) ts ≡ form_at d ts
+turn zero ts = refl
+turn (suc d) ts = refl
+
+-- 8. So forms are read to any depth
+form_law : (d : ℕ) → Lawful (form_spec d) (form_at d)
+form_law = nest_law inner (λ d. d) name after at_last form_spec name_at after_at form_at (record {
+  turn = turn;
+  smaller = smaller;
+  names = name_law;
+  joins = λ d. join_leaf fixed token (λ b. b) (judge d) false (following d);
+  deeper = deeper;
+  deepest = deepest;
+  deepest_reads = deepest_reads;
+  view = view;
+})
+
+-- 9. And what is answered computes
+abbrev answer : ℕ → List Terminal → Result ℕ Fault
+answer d ts = whole None (form_at d) ts
+
+abbrev less_than : ℕ → ℕ → List Terminal
+less_than a b = spell_form (less (pos a) (pos b))
+
+one_less : answer 0 (less_than 1 2) ≡ Ok 1
+unfolding mark_at number_at
+one_less = refl
+
+out_of_order : answer 0 (less_than 2 1) ≡ Err (record { left = 1; kind = kinds.Shape })
+unfolding mark_at number_at
+out_of_order = refl
+
+two_inside : answer 1 (spell_form (any_of (and_more (less (pos 1) (pos 2)) (only (less (pos 1) (pos 3)))))) ≡ Ok 2
+unfolding loop mark_at end_at number_at items_at maybe_at
+two_inside = refl
+
+too_deep : answer 1 (spell_form (any_of (only (any_of (only (less (pos 2) (pos 1))))))) ≡ Err (record { left = 10; kind = kinds.Limit limits.Nesting })
+unfolding loop mark_at end_at number_at items_at maybe_at
+too_deep = refl
