@@ -311,7 +311,7 @@ numbers_law = row_law sorts (λ s z t. false) (λ s. free) (λ s. pos 0)
 
 less_law : Lawful {V = ℕ} (mark_then OpenRound None (valued (λ vs. 1) numbers)) (then_read (mark_at marks_only OpenRound None) (λ u. then_read (row_at behind_num (λ s vs. number_at (λ z. None)) row) (λ vs. ret 1)))
 less_law =
-    let law = Lawful-valued (λ vs. 1) numbers (row_at behind_num (λ s vs. number_at (λ z. None)) row) numbers_law in
+    let law : Lawful {V = ℕ} (valued (λ vs. 1) numbers) (then_read (row_at behind_num (λ s vs. number_at (λ z. None)) row) (λ vs. ret 1)) = Lawful-valued (λ vs. 1) numbers (row_at behind_num (λ s vs. number_at (λ z. None)) row) numbers_law in
     Lawful-mark_then OpenRound None (λ kind e. cc) (valued (λ vs. 1) numbers) _ law.sound (λ kept. law)
 
 form_solid : (f : Form) → spell_form f ≡ [] → ⊥

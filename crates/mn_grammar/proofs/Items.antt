@@ -1,12 +1,12 @@
 -- Bracketed lists of entries that are read lawfully.
-use Rattle.std.proofs.Common.{◌≡◌, ◌⊎◌, ℕ, suc, ◌+◌, Bool, true, false, ◌||◌, ◌&&◌, List, [], ◌∷◌, ◌++◌, length, Option, Some, None, refl, sym, ap, ap₂, ◌∙◌, subst, inl, inr, arith, append_assoc, append-nil, length-append}
+use Rattle.std.proofs.Common.{◌≡◌, ◌⊎◌, ℕ, suc, ◌+◌, Bool, true, false, ◌||◌, ◌&&◌, List, [], ◌∷◌, ◌++◌, length, Option, Some, None, Ok, Err, refl, sym, ap, ap₂, ◌∙◌, subst, inl, inr, arith, append_assoc, append-nil, length-append}
 use Rattle.mn_lexer.specs.Terminals.{Terminal, mark}
 use Rattle.mn_lexer.specs.declared.marks.Mark.{Mark}
 use Rattle.mn_lexer.specs.declared.marks.Mark.TheVariants.{Comma}
 use Rattle.mn_grammar.specs.Tokens.{is_the_mark}
 use Rattle.mn_grammar.specs.Kinds.{is_condition}
 use Rattle.mn_grammar.specs.Places.{Break, on, behind}
-use Rattle.mn_grammar.specs.Reading.{Reader, Site, marks_only, Turn, goes_on, is_done, then_read, ret, or_else, loop, mark_at, end_at}
+use Rattle.mn_grammar.specs.Reading.{Answer, Reader, go_on, Site, marks_only, Turn, goes_on, is_done, then_read, ret, or_else, loop, mark_at, end_at}
 use Rattle.mn_grammar.specs.Lawful.{Spec, OnlyMarks, Fits, first, Lawful}
 use Rattle.mn_grammar.specs.Lists.{Items, final, also, spell_items, spell_maybe, Judge, breaks_items, value_items, breaks_maybe, value_maybe, turn_at, items_at, maybe_at}
 use Rattle.mn_grammar.proofs.Breaks.{behind_append, behind_behind}
@@ -16,7 +16,8 @@ use Rattle.mn_grammar.proofs.Marks.{the_mark, is_itself, is_no_other, a_mark, La
 use Rattle.mn_grammar.proofs.Joins.{joined, Join, Lawful-then}
 use Rattle.mn_grammar.proofs.Choices.{either, Choice, Lawful-or}
 use Rattle.mn_grammar.proofs.Views.{IsView, Lawful-view}
-use Rattle.mn_grammar.proofs.Loops.{Turns, last, more, spell_turns, breaks_turns, value_turns, blocks_turns, turns, Loop, Lawful-loop}
+use Rattle.mn_grammar.proofs.Loops.{Turns, last, more, spell_turns, breaks_turns, value_turns, blocks_turns, turns, Loop, Lawful-loop, turn_fails, turn_goes_on, turn_ends}
+use Rattle.mn_grammar.specs.declared.Fault.{Fault}
 use Rattle.mn_grammar.specs.declared.Kind.{Kind}
 
 -- what would go on with a part that isn't the last counts for nothing
@@ -218,6 +219,29 @@ module _ {A S V R : Type 0} (shut : Mark) (j : Judge A S V) (blocks : A → Term
       Lawful-items s =
           Lawful-view (looped s) (items_spec s) (view s) (loop (turn_at shut j.ends result read) s)
           (Lawful-loop turn next_of result_of some is_loop (turn_at shut j.ends result read) turn_law s)
+
+      -- what a list answers, by what its entry and the end behind it do
+      pub entry_fails : (s : S) (ts : List Terminal) (e : Fault) → read s ts ≡ Err e → items_at shut j.ends result read s ts ≡ Err e
+      unfolding items_at
+      entry_fails s ts e same =
+          turn_fails turn next_of result_of some is_loop (turn_at shut j.ends result read) turn_law s ts e
+          (ap (λ r. go_on r (λ v. end_at shut (j.ends.comma s v) (j.ends.close s v) (j.ends.next s v) (result s v))) same)
+
+      module _ (s : S) (ts : List Terminal) (v : V) (rest : List Terminal) (entry_is : read s ts ≡ Ok (v, rest)) where
+        end_is : (r : Answer (Turn S R)) → end_at shut (j.ends.comma s v) (j.ends.close s v) (j.ends.next s v) (result s v) rest ≡ r → turn_at shut j.ends result read s ts ≡ r
+        end_is r same = ap (λ r. go_on r (λ v. end_at shut (j.ends.comma s v) (j.ends.close s v) (j.ends.next s v) (result s v))) entry_is ∙ same
+
+        pub end_fails : (e : Fault) → end_at shut (j.ends.comma s v) (j.ends.close s v) (j.ends.next s v) (result s v) rest ≡ Err e → items_at shut j.ends result read s ts ≡ Err e
+        unfolding items_at
+        end_fails e same = turn_fails turn next_of result_of some is_loop (turn_at shut j.ends result read) turn_law s ts e (end_is (Err e) same)
+
+        pub list_goes_on : (z : S) (left : List Terminal) → end_at shut (j.ends.comma s v) (j.ends.close s v) (j.ends.next s v) (result s v) rest ≡ Ok (goes_on z, left) → items_at shut j.ends result read s ts ≡ items_at shut j.ends result read z left
+        unfolding items_at
+        list_goes_on z left same = turn_goes_on turn next_of result_of some is_loop (turn_at shut j.ends result read) turn_law s ts z left (end_is (Ok (goes_on z, left)) same)
+
+        pub list_ends : (r : R) (left : List Terminal) → end_at shut (j.ends.comma s v) (j.ends.close s v) (j.ends.next s v) (result s v) rest ≡ Ok (is_done r, left) → items_at shut j.ends result read s ts ≡ Ok (r, left)
+        unfolding items_at
+        list_ends r left same = turn_ends turn next_of result_of some is_loop (turn_at shut j.ends result read) turn_law s ts r left (end_is (Ok (is_done r, left)) same)
 
 -- the front of two lists, where the first isn't empty
 front_of : (l m : List Terminal) (t : Terminal) (q : List Terminal) → (l ≡ [] → ⊥) → l ++ m ≡ t ∷ q → (r : List Terminal) × (l ≡ t ∷ r)

@@ -253,3 +253,13 @@ module _ {G E S V : Type 0} (turn : S → Spec (G ⊎ E) (Turn S V)) (next : S �
       complete = λ gs rest lacks. complete_loop gs s rest lacks;
       said = λ ts. said_loop (suc (length ts)) s ts (omega arith);
     }
+
+    -- what a loop answers, by what its turn does
+    pub turn_fails : (s : S) (ts : List Terminal) (e : Fault) → step s ts ≡ Err e → loop step s ts ≡ Err e
+    turn_fails s ts e same = loop_turn s ts ∙ ap (λ r. go_on r (turned (loop step))) same
+
+    pub turn_goes_on : (s : S) (ts : List Terminal) (z : S) (rest : List Terminal) → step s ts ≡ Ok (goes_on z, rest) → loop step s ts ≡ loop step z rest
+    turn_goes_on s ts z rest same = loop_turn s ts ∙ ap (λ r. go_on r (turned (loop step))) same
+
+    pub turn_ends : (s : S) (ts : List Terminal) (v : V) (rest : List Terminal) → step s ts ≡ Ok (is_done v, rest) → loop step s ts ≡ Ok (v, rest)
+    turn_ends s ts v rest same = loop_turn s ts ∙ ap (λ r. go_on r (turned (loop step))) same

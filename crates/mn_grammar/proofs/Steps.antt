@@ -4,12 +4,13 @@ use Rattle.mn_lexer.specs.Terminals.{Terminal, mark}
 use Rattle.mn_lexer.specs.declared.marks.Mark.{Mark}
 use Rattle.mn_grammar.specs.Kinds.{is_condition}
 use Rattle.mn_grammar.specs.Places.{Break, on, behind}
-use Rattle.mn_grammar.specs.Reading.{Answer, Reader, Site, marks_only, go_on, then_read, ret, mark_at}
+use Rattle.mn_grammar.specs.Reading.{Answer, Reader, Site, marks_only, go_on, then_read, ret, or_else, mark_at}
 use Rattle.mn_grammar.specs.Lawful.{Spec, OnlyMarks, Fits, Lacks, first, answered, answer_of, Sound, IsRead, IsLeft, IsBroken, Said, Lawful}
 use Rattle.mn_grammar.proofs.Sites.{Fits-nothing}
-use Rattle.mn_grammar.proofs.Leaves.{leaf}
+use Rattle.mn_grammar.proofs.Leaves.{leaf, nothing, Lawful-ret}
 use Rattle.mn_grammar.proofs.Marks.{a_mark, Lawful-mark}
 use Rattle.mn_grammar.proofs.Joins.{joined, Join, Lawful-then}
+use Rattle.mn_grammar.proofs.Choices.{either, Lawful-or}
 use Rattle.mn_grammar.proofs.Views.{IsView, Lawful-view}
 use Rattle.mn_grammar.specs.declared.Fault.{Fault}
 use Rattle.mn_grammar.specs.declared.Kind.{Kind}
@@ -122,3 +123,48 @@ mark_last m c w = valued (λ u. w) (a_mark marks_only m c)
 
 pub Lawful-mark_last : {W : Type 0} (m : Mark) (c : Option Kind) (w : W) → ((kind : Kind) → c ≡ Some kind → is_condition kind ≡ true) → Lawful (mark_last m c w) (then_read (mark_at marks_only m c) (λ u. ret w))
 Lawful-mark_last m c w kinds = Lawful-valued (λ u. w) (a_mark marks_only m c) (mark_at marks_only m c) (Lawful-mark m c kinds)
+
+-- a part that may be left out; what it begins with is told by its first token
+module _ {X V : Type 0} (test : Terminal → Bool) (s : Spec X V) (site : Site) (none : V) where
+  abbrev pub spell_option : Option X → List Terminal
+  spell_option None = []
+  spell_option (Some x) = s.spell x
+
+  abbrev pub breaks_option : Option X → List Break
+  breaks_option None = []
+  breaks_option (Some x) = s.breaks x
+
+  abbrev pub value_option : Option X → V
+  value_option None = none
+  value_option (Some x) = s.value x
+
+  abbrev pub blocks_option : Option X → Terminal → Bool
+  blocks_option None t = test t
+  blocks_option (Some x) t = s.blocks x t
+
+  abbrev pub optional : Spec (Option X) V
+  optional = record { spell = spell_option; breaks = breaks_option; value = value_option; blocks = blocks_option; start = site; any = None }
+
+  left_out : (b : Bool) → b ≡ ((b && true) || false)
+  left_out true = refl
+  left_out false = refl
+
+  -- it begins with the tokens that the test tells, with all of them, and they fit the site behind it
+  pub Lawful-optional :
+      ((x : X) → (t : Terminal) × (q : List Terminal) × (s.spell x ≡ t ∷ q) × (test t ≡ true))
+      → ((t : Terminal) → test t ≡ true → (x : X) × (q : List Terminal) × (s.spell x ≡ t ∷ q))
+      → Fits site test → (read : Reader V) → Lawful s read → Lawful optional (or_else test read (ret none))
+  Lawful-optional begins starts fits read law =
+      Lawful-view (either test s (nothing site none)) optional
+      (record {
+        onto = elim [ inl x ↦ Some x | inr u ↦ None ];
+        back = elim [ None ↦ inr tt | Some x ↦ inl x ];
+        again = elim [ None ↦ refl | Some x ↦ refl ];
+        spell = elim [ inl x ↦ refl | inr u ↦ refl ];
+        breaks = elim [ inl x ↦ refl | inr u ↦ refl ];
+        value = elim [ inl x ↦ refl | inr u ↦ refl ];
+        blocks = elim [ inl x ↦ λ t. refl | inr u ↦ λ t. left_out (test t) ];
+        start = refl;
+      })
+      (or_else test read (ret none))
+      (Lawful-or test s (nothing site none) (record { begins = begins; starts = starts; apart = λ u t q e. cc; fits = fits }) read (ret none) law (Lawful-ret site none))

@@ -6,3 +6,4 @@ pub mod Lawful
 pub mod Laws
 pub mod Lists
 pub mod Rows
+pub mod Gives

@@ -10,7 +10,13 @@
 //! The crate stands on `mn_lexer`, whose tokens it reads.
 #![tactic(auto)]
 
+ghost use Rattle.std.specs.Prelude.{◌≡◌};
+ghost use Rattle.mn_grammar.specs.Reading.{renamed};
+ghost use Rattle.mn_grammar.specs.declared.Stop.TheVariants.{NoMemory};
 ghost use Rattle.mn_grammar.specs.Laws.{OneRefusal, NoTextRefused, LawfulIsExact, SomeVerdict, OneVerdict};
+
+use mn_lexer::LexFault;
+use std::alloc::{AllocError, AllocFailed};
 
 /// The limits that a list of tokens can pass.
 #[derive(Clone, Copy, Debug, PartialEq, Eq)]
@@ -51,6 +57,47 @@ pub enum Kind {
 pub struct Fault {
     pub left: usize,
     pub kind: Kind,
+}
+
+/// Why reading ended without a value.
+#[derive(Clone, Copy, Debug, PartialEq, Eq)]
+pub enum Stop {
+    /// The list is refused.
+    Refused(Fault),
+    /// Memory ran out.
+    NoMemory,
+}
+
+impl From<AllocError> for Stop {
+    ghost from_gives = { λ _ e. e ≡ NoMemory };
+
+    fn from(_e: AllocError) -> Stop {
+        Stop::NoMemory
+    }
+}
+
+impl<T: Drop> From<AllocFailed<T>> for Stop {
+    ghost from_gives = { λ _ e. e ≡ NoMemory };
+
+    fn from(_e: AllocFailed<T>) -> Stop {
+        Stop::NoMemory
+    }
+}
+
+/// The same fault, where `stop` is what ended the list of tokens: at the list's end the kind is that
+/// of the lexical fault, if one stands there.
+pub fn renamed(fault: Fault, stop: Option<LexFault>) -> Fault
+    ensures { result ≡ renamed stop fault }
+{
+    if fault.left > 0 {
+        return fault;
+    }
+    let kind = match stop {
+        None => Kind::Syntax,
+        Some(LexFault::Lex(_)) => Kind::Lex,
+        Some(LexFault::NumberRange(_)) => Kind::NumberRange,
+    };
+    Fault { left: 0, kind }
 }
 
 /// A law of every language whose trees are of the type `X`: a list of tokens is refused at one place
