@@ -1,5 +1,5 @@
 -- Lists of what is broken, and the first of them.
-use Rattle.std.proofs.Common.{◌≡◌, ◌⊎◌, ℕ, ◌+◌, ◌<◌, ◌≤◌, Bool, true, false, cond, ltb, eqb, ◌||◌, ◌&&◌, List, [], ◌∷◌, ◌++◌, get_or, length, Option, Some, None, refl, sym, ap, ap₂, ◌∙◌, subst, inl, inr, ⊎_elim, arith, append-nil}
+use Rattle.std.proofs.Common.{◌≡◌, ◌⊎◌, ℕ, ◌+◌, ◌<◌, ◌≤◌, true, false, cond, ltb, eqb, List, [], ◌∷◌, ◌++◌, get_or, Option, Some, None, refl, sym, ap, ap₂, ◌∙◌, subst, inl, inr, ⊎_elim, arith, append-nil}
 use Rattle.std.proofs.lemmas.Bool.{cases_Bool, and_parts, or_cases, or_parts, and_cases, ltb-true, ltb-false, eqb-true, eqb-false}
 use Rattle.mn_grammar.specs.Kinds.{rank}
 use Rattle.mn_grammar.specs.Places.{Break, on, behind, Has}
@@ -57,7 +57,7 @@ not_before_at c b e =
     ⊎_elim
     (λ apart. let ne = eqb-false c.0 b.0 apart in inl (omega arith))
     (λ above_rank. let r = ltb-false (rank c.1) (rank b.1) above_rank in
-        ⊎_elim (λ (less : b.0 < c.0). inl less) (λ (same : b.0 ≡ c.0). inr (same, r)) (split b.0 c.0 above))
+    ⊎_elim (λ (less : b.0 < c.0). inl less) (λ (same : b.0 ≡ c.0). inr (same, r)) (split b.0 c.0 above))
     (and_cases (eqb c.0 b.0) _ parts.1)
   where
     split : (m n : ℕ) → m ≤ n → (m < n) ⊎ (m ≡ n)

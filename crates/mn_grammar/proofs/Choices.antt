@@ -1,14 +1,13 @@
 -- One of two readers, by the first token.
-use Rattle.std.proofs.Common.{◌≡◌, ◌⊎◌, ℕ, Bool, true, false, cond, ◌||◌, ◌&&◌, List, [], ◌∷◌, ◌++◌, length, Option, Some, None, Ok, Err, refl, sym, ap, ◌∙◌, subst, inl, inr, ⊎_elim}
-use Rattle.std.proofs.lemmas.Bool.{cases_Bool, or_cases, and_parts, and_left}
+use Rattle.std.proofs.Common.{◌≡◌, ◌⊎◌, Bool, true, false, cond, ◌||◌, ◌&&◌, List, [], ◌∷◌, ◌++◌, Ok, Err, refl, sym, ap, ◌∙◌, subst, inl, inr, ⊎_elim}
+use Rattle.std.proofs.lemmas.Bool.{cases_Bool, or_cases, and_parts}
 use Rattle.mn_lexer.specs.Terminals.{Terminal}
-use Rattle.mn_grammar.specs.Places.{Break, Has, IsFine}
-use Rattle.mn_grammar.specs.Reading.{Answer, Reader, Site, refused, or_else}
-use Rattle.mn_grammar.specs.Lawful.{Spec, IsSite, Fits, Lacks, first, answered, answer_of, Sound, IsRead, IsLeft, IsBroken, Said, Complete, Lawful}
+use Rattle.mn_grammar.specs.Places.{Break}
+use Rattle.mn_grammar.specs.Reading.{Answer, Reader, or_else}
+use Rattle.mn_grammar.specs.Lawful.{Spec, Fits, Lacks, answer_of, Sound, IsLeft, IsBroken, Said, Complete, Lawful}
 use Rattle.mn_grammar.proofs.Sites.{is_nil, nil_of, IsSite-wider, Fits-where, Lacks-parts, Lacks-both, Lacks-front, Lacks-behind, Lacks-same}
 use Rattle.mn_grammar.proofs.Refusals.{none_begins}
 use Rattle.mn_grammar.specs.declared.Fault.{Fault}
-use Rattle.mn_grammar.specs.declared.Kind.{Kind}
 
 module _ {X Y V : Type 0} (test : Terminal → Bool) (a : Spec X V) (b : Spec Y V) where
   -- a tree of a or one of b
@@ -58,8 +57,8 @@ module _ {X Y V : Type 0} (test : Terminal → Bool) (a : Spec X V) (b : Spec Y 
       | inl x ↦ λ t e. let z = sa.extends x t e in (inl z.0, z.1, z.2)
       | inr y ↦ λ t e. ⊎_elim
           (λ front. let both = and_parts _ _ front in
-              let x = choice.starts t both.0 in
-              (inl x.0, x.1, x.2 ∙ ap (λ l. l ++ t ∷ x.1) (sym (nil_of (b.spell y) both.1))))
+          let x = choice.starts t both.0 in
+          (inl x.0, x.1, x.2 ∙ ap (λ l. l ++ t ∷ x.1) (sym (nil_of (b.spell y) both.1))))
           (λ after. let z = sb.extends y t after in (inr z.0, z.1, z.2))
           (or_cases _ _ e)
     ];
@@ -156,8 +155,8 @@ module _ {X Y V : Type 0} (test : Terminal → Bool) (a : Spec X V) (b : Spec Y 
       is_site = IsSite-wider left.site (λ t. test t && is_nil left.passed) left.wanted (Fits-where left.passed left.site test (λ none. subst (λ s. Fits s test) (sym (left.starts none)) choice.fits)) left.is_site;
       wants = λ t w. ⊎_elim
           (λ front. let both = and_parts _ _ front in
-              let x = choice.starts t both.0 in
-              (inl x.0, x.1, x.2 ∙ ap (λ l. l ++ t ∷ x.1) (sym (nil_of left.passed both.1))))
+          let x = choice.starts t both.0 in
+          (inl x.0, x.1, x.2 ∙ ap (λ l. l ++ t ∷ x.1) (sym (nil_of left.passed both.1))))
           (λ after. let y = left.wants t after in (inr y.0, y.1, y.2))
           (or_cases _ _ w);
       refuses = λ us none.

@@ -1,13 +1,13 @@
 -- From the law of a reader to what is promised of it: each list has one verdict, and the reader answers it.
-use Rattle.std.proofs.Common.{◌≡◌, ◌⊎◌, ℕ, zero, suc, ◌+◌, ◌-◌, ◌<◌, ◌≤◌, Bool, true, false, cond, not, ◌&&◌, eqb, List, [], ◌∷◌, ◌++◌, length, Option, Some, None, Ok, Err, Result, refl, sym, ap, ◌∙◌, subst, inl, inr, ⊎_elim, arith, append-nil, append_assoc, length-append, pos}
-use Rattle.std.proofs.lemmas.Bool.{cases_Bool, cases_order, and_parts, and_cases, and_from, not_from_false}
-use Rattle.mn_lexer.specs.Terminals.{Terminal, word, number, head, mark}
+use Rattle.std.proofs.Common.{◌≡◌, ◌⊎◌, ℕ, suc, ◌+◌, ◌-◌, ◌<◌, ◌≤◌, Bool, true, false, cond, not, ◌&&◌, List, [], ◌∷◌, ◌++◌, length, Option, Some, None, Ok, Err, Result, refl, sym, ap, ◌∙◌, subst, inl, inr, ⊎_elim, arith, append-nil, append_assoc, length-append}
+use Rattle.std.proofs.lemmas.Bool.{cases_order, and_parts, and_from, not_from_false}
+use Rattle.mn_lexer.specs.Terminals.{Terminal}
 use Rattle.mn_lexer.specs.declared.LexFault.{LexFault}
-use Rattle.mn_grammar.specs.Tokens.{name_of, is_head, is_mark, is_number, is_known_head}
-use Rattle.mn_grammar.specs.Kinds.{rank, is_condition, kind_at_end}
-use Rattle.mn_grammar.specs.Places.{Break, Has, Begins, IsFine, WantsName, WantsNumber, IsStrange, IsOther, IsUnsupported, IsKind, IsBrokenBy, Why, ended, grammar, condition, IsRefusedAt, IsText}
+use Rattle.mn_grammar.specs.Tokens.{is_head, is_mark, is_known_head}
+use Rattle.mn_grammar.specs.Kinds.{rank}
+use Rattle.mn_grammar.specs.Places.{Break, Has, Begins, WantsName, WantsNumber, IsOther, IsKind, Why, ended, grammar, condition, IsRefusedAt, IsText}
 use Rattle.mn_grammar.specs.Reading.{Answer, Reader, Site, marks_only, free, fixed, mixed, refused, fault_at, kind_at, finished, renamed, named, whole}
-use Rattle.mn_grammar.specs.Lawful.{Spec, IsOpen, IsClosed, IsSite, Lacks, a_name, a_number, first, answered, answer_of, Sound, IsRead, IsLeft, IsBroken, Said, Complete, Lawful}
+use Rattle.mn_grammar.specs.Lawful.{Spec, IsOpen, IsSite, Lacks, a_name, a_number, first, answered, answer_of, IsLeft, IsBroken, Said, Lawful}
 use Rattle.mn_grammar.specs.Laws.{Reads, Refuses, IsVerdict, IsWhole, IsExact}
 use Rattle.mn_grammar.proofs.Breaks.{IsFirst, first_is, same_kind, NotBefore}
 use Rattle.mn_grammar.proofs.Sites.{head_no_mark}
@@ -114,8 +114,8 @@ module _ {X : Type 0} (spell : X → List Terminal) (breaks : X → List Break) 
   pub one_refusal : (ts : List Terminal) (at other : ℕ) (kind another : Kind) → IsRefusedAt spell breaks stop ts at kind → IsRefusedAt spell breaks stop ts other another → (at ≡ other) × (kind ≡ another)
   one_refusal ts at other kind another a b = ⊎_elim
       (λ size.
-          let cut = same_cut a.passed a.others b.passed b.others (sym a.parts ∙ b.parts) size in
-          (a.place ∙ size ∙ sym b.place, one_why a.passed a.others b.others kind another cut.1 a.why (subst (λ p. Why spell breaks stop p b.others another) (sym cut.0) b.why)))
+      let cut = same_cut a.passed a.others b.passed b.others (sym a.parts ∙ b.parts) size in
+      (a.place ∙ size ∙ sym b.place, one_why a.passed a.others b.others kind another cut.1 a.why (subst (λ p. Why spell breaks stop p b.others another) (sym cut.0) b.why)))
       (λ apart. absurd (⊎_elim (none_earlier ts at other kind another a b) (none_earlier ts other at another kind b a) apart))
       (cases_order (length a.passed) (length b.passed))
 
@@ -180,13 +180,14 @@ module _ {X V : Type 0} (s : Spec X V) (stop : Option LexFault) (read : Reader V
   none_behind x kept t begins =
       let y = begins_with s.spell s.breaks stop (s.spell x) t begins in
       let same : answer_of s x (t ∷ y.1) ≡ answer_of s y.0 [] =
-          sym (law.complete x (t ∷ y.1) (alone x t)) ∙ ap read (sym y.2) ∙ read_alone s read law.complete y.0 in
+      sym (law.complete x (t ∷ y.1) (alone x t)) ∙ ap read (sym y.2) ∙ read_alone s read law.complete y.0 in
       let left : ◌≡◌ {A = Answer V} (Ok (s.value x, t ∷ y.1)) (answer_of s y.0 []) = ap (λ l. answered (first l) (length (s.spell x)) (s.value x) (t ∷ y.1)) (sym kept) ∙ same in
       by_first y.0 (s.value x) t y.1 (first (s.breaks y.0)) left
     where
       left_of : Answer V → List Terminal
       left_of (Ok r) = r.1
       left_of (Err e) = []
+
       by_first : (y : X) (v : V) (t : Terminal) (q : List Terminal) (o : Option Break) → ◌≡◌ {A = Answer V} (Ok (v, t ∷ q)) (answered o (length (s.spell y)) (s.value y) []) → ⊥
       by_first y v t q None same = let none : t ∷ q ≡ [] = ap left_of same in absurd cc
       by_first y v t q (Some k) same = cc
@@ -244,6 +245,7 @@ module _ {X V : Type 0} (s : Spec X V) (stop : Option LexFault) (read : Reader V
       where
         size : length (s.spell x) ≡ length is.passed + suc (length q)
         size = ap length spelled ∙ length-append is.passed (is.token ∷ q)
+
         at : (o : Option Break) → first (s.breaks x) ≡ o → ◌≡◌ {A = Answer V} (answered o (length (s.spell x)) (s.value x) []) (Err (fault_at (is.token ∷ q) is.kind)) → o ≡ Some (length is.passed, is.kind)
         at None f same = absurd (ok_no_fault _ _ same)
         at (Some k) f same =

@@ -1,20 +1,20 @@
 -- A small language, to show how a reader is proved exact: `MINION`, names, `**EOF**`. Each name stands once, and there
 -- are two at most.
-use Rattle.std.proofs.Common.{◌≡◌, ◌⊎◌, ℕ, zero, suc, ◌≤◌, Bool, true, false, cond, ltb, ◌||◌, List, [], ◌∷◌, ◌++◌, length, codes, Option, Some, None, is_some, Ok, Err, Result, refl, sym, ap, ◌∙◌, subst, inl, inr, bytes_eq, if◌then◌else◌, arith}
+use Rattle.std.proofs.Common.{◌≡◌, ◌⊎◌, ℕ, ◌≤◌, Bool, true, false, cond, ltb, ◌||◌, List, [], ◌∷◌, ◌++◌, length, codes, Option, Some, None, is_some, Ok, Err, Result, refl, sym, ap, ◌∙◌, inl, inr, bytes_eq, if◌then◌else◌, arith}
 use Rattle.mn_lexer.specs.Terminals.{Terminal, word, number, head, mark}
 use Rattle.mn_lexer.specs.declared.LexFault.{LexFault}
-use Rattle.mn_grammar.specs.Tokens.{Name, is_name, name_of, is_head, is_mark, is_the_head}
+use Rattle.mn_grammar.specs.Tokens.{Name, is_name, name_of}
 use Rattle.mn_grammar.specs.Kinds.{rank, is_condition}
 use Rattle.mn_grammar.specs.Places.{Break, on, behind}
-use Rattle.mn_grammar.specs.Reading.{Reader, Site, mixed, fixed, Turn, goes_on, is_done, one, ret, then_read, loop, word_at, whole}
+use Rattle.mn_grammar.specs.Reading.{Reader, mixed, fixed, Turn, goes_on, is_done, one, ret, then_read, loop, word_at, whole}
 use Rattle.mn_grammar.specs.Lawful.{Spec, first, Lawful}
 use Rattle.mn_grammar.specs.Laws.{IsExact}
 use Rattle.mn_grammar.proofs.Breaks.{alike_append, alike_behind, or_then, on_both}
-use Rattle.mn_grammar.proofs.Leaves.{leaf, IsLeaf, Lawful-one}
-use Rattle.mn_grammar.proofs.Words.{name_token, name_of_name, of_name, the_head, a_word_leaf, Lawful-word}
+use Rattle.mn_grammar.proofs.Leaves.{leaf, Lawful-one}
+use Rattle.mn_grammar.proofs.Words.{name_token, of_name, the_head, a_word_leaf, Lawful-word}
 use Rattle.mn_grammar.proofs.Joins.{joined, Lawful-then}
 use Rattle.mn_grammar.proofs.Steps.{join_leaf, valued, Lawful-valued}
-use Rattle.mn_grammar.proofs.Views.{IsView, Lawful-view}
+use Rattle.mn_grammar.proofs.Views.{Lawful-view}
 use Rattle.mn_grammar.proofs.Loops.{Turns, last, more, turns, Loop, Lawful-loop}
 use Rattle.mn_grammar.proofs.Exact.{exact}
 use Rattle.mn_lexer.specs.declared.LexFault.TheVariants as stop
@@ -227,7 +227,7 @@ text_law = Lawful-view (joined (a_word_leaf (codes "MINION") None) (λ u. names_
     })
     read_text
     (Lawful-then (a_word_leaf (codes "MINION") None) (λ u. names_spec []) (join_leaf fixed (λ u. word (codes "MINION")) (λ u. u) (λ u. None) tt (λ u. names_spec []))
-        (word_at (codes "MINION") None) (λ u. loop step []) (Lawful-word (codes "MINION") None refl (λ kind e. cc)) (λ u. (names_law []).sound) (λ u kept. names_law []))
+    (word_at (codes "MINION") None) (λ u. loop step []) (Lawful-word (codes "MINION") None refl (λ kind e. cc)) (λ u. (names_law []).sound) (λ u kept. names_law []))
 
 -- 8. So it accepts exactly the texts, and refuses all other lists at their place
 pub example_is_exact : (stop : Option LexFault) → IsExact text_spec stop (whole stop read_text)

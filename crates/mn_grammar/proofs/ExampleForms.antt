@@ -1,24 +1,24 @@
 -- Another small language: `less(1,2)` and `any{..}` of any number of forms, one within another. It shows a row of
 -- arguments with a condition on the values so far, a list that may be empty, and nesting to a depth.
-use Rattle.std.proofs.Common.{◌≡◌, ◌⊎◌, ℕ, ℤ, zero, suc, ◌+◌, ◌<◌, Bool, true, false, cond, ◌||◌, List, [], ◌∷◌, ◌++◌, length, codes, pos, int_lt, Option, Some, None, is_some, Ok, Err, Result, refl, sym, ap, ap₂, ◌∙◌, subst, inl, inr, bytes_eq, if◌then◌else◌, arith, append-nil}
-use Rattle.mn_lexer.specs.Terminals.{Terminal, word, number, head, mark}
+use Rattle.std.proofs.Common.{◌≡◌, ℕ, ℤ, zero, suc, ◌+◌, ◌<◌, Bool, true, false, cond, List, [], ◌∷◌, ◌++◌, length, codes, pos, int_lt, Option, Some, None, Ok, Err, Result, refl, sym, ap, ◌∙◌, if◌then◌else◌, arith, append-nil}
+use Rattle.mn_lexer.specs.Terminals.{Terminal, word, number, mark}
 use Rattle.mn_lexer.specs.declared.marks.Mark.TheVariants.{OpenCurly, CloseCurly, OpenRound, CloseRound, Comma}
 use Rattle.mn_grammar.specs.Tokens.{is_the_mark, is_the_word}
 use Rattle.mn_grammar.specs.Kinds.{is_condition}
 use Rattle.mn_grammar.specs.Places.{Break, on, behind}
-use Rattle.mn_grammar.specs.Reading.{Reader, Site, fixed, free, marks_only, one, ret, then_read, loop, mark_at, end_at, number_at, never, within, whole}
+use Rattle.mn_grammar.specs.Reading.{Reader, fixed, free, marks_only, one, ret, then_read, loop, mark_at, end_at, number_at, never, within, whole}
 use Rattle.mn_grammar.specs.Lawful.{Spec, first, Sound, Lawful}
-use Rattle.mn_grammar.specs.Lists.{Items, final, also, spell_items, spell_maybe, Ends, Judge, breaks_items, value_items, breaks_maybe, value_maybe, items_at, maybe_at}
+use Rattle.mn_grammar.specs.Lists.{Items, final, also, spell_items, spell_maybe, Ends, Judge, breaks_items, value_items, value_maybe, items_at, maybe_at}
 use Rattle.mn_grammar.specs.Rows.{Sorts, Arguments, row_at}
 use Rattle.mn_grammar.proofs.Breaks.{behind_behind, alike_append, alike_behind}
-use Rattle.mn_grammar.proofs.Leaves.{leaf, IsLeaf, Lawful-one}
+use Rattle.mn_grammar.proofs.Leaves.{leaf, Lawful-one}
 use Rattle.mn_grammar.proofs.Words.{Lawful-number, the_word}
-use Rattle.mn_grammar.proofs.Joins.{joined, Join}
+use Rattle.mn_grammar.proofs.Joins.{joined}
 use Rattle.mn_grammar.proofs.Steps.{join_leaf, valued, Lawful-valued, mark_then, Lawful-mark_then}
 use Rattle.mn_grammar.proofs.Views.{IsView}
-use Rattle.mn_grammar.proofs.Items.{Entries, maybe_spec, Lawful-maybe}
-use Rattle.mn_grammar.proofs.Tables.{AreSorts, row_spec, row_law}
-use Rattle.mn_grammar.proofs.Nested.{unread, Sound-unread, behind_name, IsNested, nest_law}
+use Rattle.mn_grammar.proofs.Items.{maybe_spec, Lawful-maybe}
+use Rattle.mn_grammar.proofs.Tables.{row_spec, row_law}
+use Rattle.mn_grammar.proofs.Nested.{unread, Sound-unread, behind_name, nest_law}
 use Rattle.mn_grammar.specs.declared.Fault.{Fault}
 use Rattle.mn_grammar.specs.declared.Kind.{Kind}
 use Rattle.mn_grammar.specs.declared.Kind.TheVariants as kinds
@@ -327,16 +327,16 @@ form_not_shut (any_of fs) t q e = let same : word (codes "any") ≡ t = cc in ap
 any_law : (d : ℕ) (read : Reader ℕ) → Lawful (form_spec d) read → Lawful (mark_then OpenCurly None (listed (form_spec d))) (then_read (mark_at marks_only OpenCurly None) (λ u. maybe_at CloseCurly summed None 0 sum_of (λ n. read) 0))
 any_law d read law =
     let list = Lawful-maybe CloseCurly (judge_of (form_spec d)) (λ f t. false) fixed any_of_none None 0 sum_of
-            (record {
-              other = refl;
-              solid = form_solid;
-              marks = λ f t e. refl;
-              no_comma = λ f. refl;
-              no_shut = λ f. refl;
-              comma_kinds = λ n v kind e. cc;
-              close_kinds = λ n v kind e. cc;
-            })
-            form_not_shut (λ kind e. cc) 0 (λ n. read) (λ n. law) in
+    (record {
+      other = refl;
+      solid = form_solid;
+      marks = λ f t e. refl;
+      no_comma = λ f. refl;
+      no_shut = λ f. refl;
+      comma_kinds = λ n v kind e. cc;
+      close_kinds = λ n v kind e. cc;
+    })
+    form_not_shut (λ kind e. cc) 0 (λ n. read) (λ n. law) in
     Lawful-mark_then OpenCurly None (λ kind e. cc) (listed (form_spec d)) (maybe_at CloseCurly summed None 0 sum_of (λ n. read) 0) list.sound (λ kept. list)
 
 deeper : (d e : ℕ) → inner d ≡ Some e → Lawful (form_spec e) (form_at e) → (b : Bool) → Lawful (after d (form_spec e) b) (after_at d (form_at e) b)

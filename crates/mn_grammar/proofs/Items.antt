@@ -1,13 +1,13 @@
 -- Bracketed lists of entries that are read lawfully.
-use Rattle.std.proofs.Common.{◌≡◌, ◌⊎◌, ℕ, suc, ◌+◌, Bool, true, false, ◌||◌, ◌&&◌, List, [], ◌∷◌, ◌++◌, length, Option, Some, None, Ok, Err, refl, sym, ap, ap₂, ◌∙◌, subst, inl, inr, arith, append_assoc, append-nil, length-append}
+use Rattle.std.proofs.Common.{◌≡◌, ◌⊎◌, ◌+◌, Bool, true, false, ◌||◌, ◌&&◌, List, [], ◌∷◌, ◌++◌, length, Option, Some, None, Ok, Err, refl, sym, ap, ap₂, ◌∙◌, subst, inl, inr, append_assoc, append-nil, length-append}
 use Rattle.mn_lexer.specs.Terminals.{Terminal, mark}
 use Rattle.mn_lexer.specs.declared.marks.Mark.{Mark}
 use Rattle.mn_lexer.specs.declared.marks.Mark.TheVariants.{Comma}
 use Rattle.mn_grammar.specs.Tokens.{is_the_mark}
 use Rattle.mn_grammar.specs.Kinds.{is_condition}
 use Rattle.mn_grammar.specs.Places.{Break, on, behind}
-use Rattle.mn_grammar.specs.Reading.{Answer, Reader, go_on, Site, marks_only, Turn, goes_on, is_done, then_read, ret, or_else, loop, mark_at, end_at}
-use Rattle.mn_grammar.specs.Lawful.{Spec, OnlyMarks, Fits, first, Lawful}
+use Rattle.mn_grammar.specs.Reading.{Answer, Reader, go_on, Site, marks_only, Turn, goes_on, is_done, then_read, ret, loop, mark_at, end_at}
+use Rattle.mn_grammar.specs.Lawful.{Spec, OnlyMarks, first, Lawful}
 use Rattle.mn_grammar.specs.Lists.{Items, final, also, spell_items, spell_maybe, Judge, breaks_items, value_items, breaks_maybe, value_maybe, turn_at, items_at, maybe_at}
 use Rattle.mn_grammar.proofs.Breaks.{behind_append, behind_behind}
 use Rattle.mn_grammar.proofs.Sites.{is_nil, both_nil, Fits-marks, Fits-nothing}
@@ -16,7 +16,7 @@ use Rattle.mn_grammar.proofs.Marks.{the_mark, is_itself, is_no_other, a_mark, La
 use Rattle.mn_grammar.proofs.Joins.{joined, Join, Lawful-then}
 use Rattle.mn_grammar.proofs.Choices.{either, Choice, Lawful-or}
 use Rattle.mn_grammar.proofs.Views.{IsView, Lawful-view}
-use Rattle.mn_grammar.proofs.Loops.{Turns, last, more, spell_turns, breaks_turns, value_turns, blocks_turns, turns, Loop, Lawful-loop, turn_fails, turn_goes_on, turn_ends}
+use Rattle.mn_grammar.proofs.Loops.{Turns, last, more, turns, Loop, Lawful-loop, turn_fails, turn_goes_on, turn_ends}
 use Rattle.mn_grammar.specs.declared.Fault.{Fault}
 use Rattle.mn_grammar.specs.declared.Kind.{Kind}
 
@@ -207,8 +207,8 @@ module _ {A S V R : Type 0} (shut : Mark) (j : Judge A S V) (blocks : A → Term
       turn_law s =
           Lawful-view (joined (entry s) (end_of s)) (turn s) (turn_view s) (turn_at shut j.ends result read s)
           (Lawful-then (entry s) (end_of s) (end_join s) (read s) (λ v. end_at shut (j.ends.comma s v) (j.ends.close s v) (j.ends.next s v) (result s v)) (law s)
-              (λ a. (end_law a).sound)
-              (λ a kept. end_law a))
+          (λ a. (end_law a).sound)
+          (λ a kept. end_law a))
         where
           end_law : (a : A) → Lawful (end_of s a) (let v = j.value s a in end_at shut (j.ends.comma s v) (j.ends.close s v) (j.ends.next s v) (result s v))
           end_law a = let v = j.value s a in Lawful-end shut (j.ends.comma s v) (j.ends.close s v) (j.ends.next s v) (result s v) are.other (are.comma_kinds s v) (are.close_kinds s v)
@@ -323,4 +323,4 @@ module _ {A S V R : Type 0} (shut : Mark) (j : Judge A S V) (blocks : A → Term
       Lawful-maybe read law =
           Lawful-view (either (is_the_mark shut) shut_spec listed) (maybe_spec s) maybe_view (maybe_at shut j.ends empty none result read s)
           (Lawful-or (is_the_mark shut) shut_spec listed choice (then_read (mark_at marks_only shut empty) (λ u. ret none)) (items_at shut j.ends result read s)
-              shut_law (Lawful-items shut j blocks start some result are read law s))
+          shut_law (Lawful-items shut j blocks start some result are read law s))

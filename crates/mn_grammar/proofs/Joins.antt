@@ -1,11 +1,11 @@
 -- One reader behind another, whose value says what is read next.
-use Rattle.std.proofs.Common.{◌≡◌, ◌⊎◌, ℕ, suc, ◌+◌, ◌-◌, ◌<◌, ◌≤◌, Bool, true, false, ◌||◌, ◌&&◌, List, [], ◌∷◌, ◌++◌, length, Option, Some, None, Ok, Err, refl, sym, ap, ◌∙◌, subst, inl, inr, ⊎_elim, arith, append_assoc, append-nil, length-append}
+use Rattle.std.proofs.Common.{◌≡◌, ℕ, ◌+◌, ◌-◌, ◌<◌, true, false, ◌||◌, ◌&&◌, List, [], ◌∷◌, ◌++◌, length, Option, Some, None, Ok, Err, refl, sym, ap, ◌∙◌, subst, inl, inr, ⊎_elim, arith, append_assoc, append-nil, length-append}
 use Rattle.std.proofs.lemmas.Bool.{or_cases, and_parts}
 use Rattle.mn_lexer.specs.Terminals.{Terminal}
 use Rattle.mn_grammar.specs.Kinds.{is_condition}
 use Rattle.mn_grammar.specs.Places.{Break, behind, Has, IsFine}
-use Rattle.mn_grammar.specs.Reading.{Answer, Reader, Site, refused, fault_at, go_on, then_read}
-use Rattle.mn_grammar.specs.Lawful.{Spec, IsSite, Fits, Lacks, first, answered, answer_of, Sound, IsRead, IsLeft, IsBroken, Said, Complete, Lawful}
+use Rattle.mn_grammar.specs.Reading.{Answer, Reader, go_on, then_read}
+use Rattle.mn_grammar.specs.Lawful.{Spec, Fits, Lacks, first, answered, answer_of, Sound, IsRead, IsLeft, IsBroken, Said, Complete, Lawful}
 use Rattle.mn_grammar.proofs.Breaks.{first_front, first_joined, first_behind, none_first, moved, has_either, behind_has}
 use Rattle.mn_grammar.proofs.Sites.{is_nil, nil_of, both_nil, IsSite-wider, Fits-where, Lacks-parts, Lacks-both, Lacks-front, Lacks-behind, Lacks-same}
 use Rattle.mn_grammar.specs.declared.Fault.{Fault}
@@ -54,20 +54,28 @@ module _ {X V W : Type 0} {Y : X → Type 0} (a : Spec X V) (b : (x : X) → Spe
   pair_fine : (p : List Terminal) → IsFine a.spell a.breaks p → IsFine s.spell s.breaks p
   pair_fine p (x, q, e, fine) =
       let r = pair_begins p (x, q, e) in
-      let size : length (a.spell x) ≡ length p + length q = ap length e ∙ length-append p q in
-      (r.0, r.1, r.2, λ place kind has. ⊎_elim
-          (λ front. fine place kind front)
-          (λ back. let k = behind_has (length (a.spell x)) _ place kind back in let at = k.1 in omega arith)
-          (has_either (a.breaks x) _ place kind has))
+      let size : length (a.spell x) ≡ length p + length q = ap length e ∙ length-append p q in (
+        r.0,
+        r.1,
+        r.2,
+        λ place kind has. ⊎_elim
+            (λ front. fine place kind front)
+            (λ back. let k = behind_has (length (a.spell x)) _ place kind back in let at = k.1 in omega arith)
+            (has_either (a.breaks x) _ place kind has),
+      )
 
   behind_fine : (x : X) (p : List Terminal) → a.breaks x ≡ [] → IsFine (b x).spell (b x).breaks p → IsFine s.spell s.breaks (a.spell x ++ p)
   behind_fine x p kept (y, q, e, fine) =
       let r = behind_begins x p (y, q, e) in
-      let size = length-append (a.spell x) p in
-      (r.0, r.1, r.2, λ place kind has. ⊎_elim
-          (λ front. absurd (subst (λ l. Has l place kind) kept front))
-          (λ back. let k = behind_has (length (a.spell x)) _ place kind back in let at = k.1 in let ok = fine k.0 kind k.2 in omega arith)
-          (has_either (a.breaks x) _ place kind has))
+      let size = length-append (a.spell x) p in (
+        r.0,
+        r.1,
+        r.2,
+        λ place kind has. ⊎_elim
+            (λ front. absurd (subst (λ l. Has l place kind) kept front))
+            (λ back. let k = behind_has (length (a.spell x)) _ place kind back in let at = k.1 in let ok = fine k.0 kind k.2 in omega arith)
+            (has_either (a.breaks x) _ place kind has),
+      )
 
   abbrev front_broken : Sound a → (p : List Terminal) (kind : Kind) → (x : X) × (q : List Terminal) × (a.spell x ≡ p ++ q) × (first (a.breaks x) ≡ Some (length p, kind)) → (z : (x : X) × Y x) × (q : List Terminal) × (s.spell z ≡ p ++ q) × (first (s.breaks z) ≡ Some (length p, kind))
   front_broken sound p kind (x, q, e, f) =
@@ -109,7 +117,7 @@ module _ {X V W : Type 0} {Y : X → Type 0} (a : Spec X V) (b : (x : X) → Spe
     extends = λ z t e. ⊎_elim
         (λ front. let both = and_parts _ _ front in front_extends sa z.0 ((b z.0).spell z.1) t both.0 (nil_of ((b z.0).spell z.1) both.1))
         (λ back. let y = (sb z.0).extends z.1 t back in
-            let r = behind_begins z.0 ((b z.0).spell z.1) (y.0, t ∷ y.1, y.2) in (r.0, y.1, r.2))
+        let r = behind_begins z.0 ((b z.0).spell z.1) (y.0, t ∷ y.1, y.2) in (r.0, y.1, r.2))
         (or_cases _ _ e);
   }
 
@@ -122,10 +130,13 @@ module _ {X V W : Type 0} {Y : X → Type 0} (a : Spec X V) (b : (x : X) → Spe
     where
       m : ℕ
       m = length (a.spell x)
+
       n : ℕ
       n = length ((b x).spell y)
+
       size : length (s.spell (x, y)) ≡ m + n
       size = length-append (a.spell x) ((b x).spell y)
+
       by_first : (o : Option Break) → first (a.breaks x) ≡ o → go_on (answered o m (a.value x) ((b x).spell y ++ rest)) rb ≡ answer_of s (x, y) rest
       by_first (Some k) e =
           let within = sound.within x k e in
@@ -175,7 +186,6 @@ module _ {X V W : Type 0} {Y : X → Type 0} (a : Spec X V) (b : (x : X) → Spe
 
   -- where a is read and b behind it is refused, so is the whole
   module _ (ra : Reader V) (rb : V → Reader W) (ts : List Terminal) (sound : Sound a) (complete : Complete a ra) (v : V) (rest : List Terminal) (read : IsRead a ts v rest) where
-
     -- a reads the same tree where the same follows
     a_reads : (us : List Terminal) → Lacks (a.blocks read.tree) us → then_read ra rb (a.spell read.tree ++ us) ≡ rb v us
     a_reads us lacks =
@@ -238,10 +248,10 @@ module _ {X V W : Type 0} {Y : X → Type 0} (a : Spec X V) (b : (x : X) → Spe
           let r = behind_begins read.tree back.passed (y.0, back.token ∷ y.1, y.2) in
           let m = length (a.spell read.tree) in
           let is : first (s.breaks (read.tree, y.0)) ≡ Some (length (a.spell read.tree ++ back.passed), back.kind) =
-              ap (λ l. first (l ++ behind m ((b read.tree).breaks y.0))) read.kept
-              ∙ first_behind m ((b read.tree).breaks y.0)
-              ∙ ap (moved m) y.3
-              ∙ ap (λ n. Some (n, back.kind)) (sym (length-append (a.spell read.tree) back.passed)) in
+          ap (λ l. first (l ++ behind m ((b read.tree).breaks y.0))) read.kept
+          ∙ first_behind m ((b read.tree).breaks y.0)
+          ∙ ap (moved m) y.3
+          ∙ ap (λ n. Some (n, back.kind)) (sym (length-append (a.spell read.tree) back.passed)) in
           (r.0, y.1, r.2, is);
     }
 

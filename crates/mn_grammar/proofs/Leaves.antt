@@ -1,10 +1,10 @@
 -- The readers of one token and of none.
-use Rattle.std.proofs.Common.{◌≡◌, ◌⊎◌, ℕ, suc, ◌+◌, ◌-◌, Bool, true, false, List, [], ◌∷◌, ◌++◌, length, Option, Some, None, is_some, Ok, Err, refl, sym, ap, ◌∙◌, subst, inl, inr, zero-le, arith}
+use Rattle.std.proofs.Common.{◌≡◌, suc, ◌+◌, ◌-◌, Bool, true, false, List, [], ◌∷◌, length, Option, Some, None, is_some, Err, refl, sym, ap, ◌∙◌, inl, inr, zero-le, arith}
 use Rattle.mn_lexer.specs.Terminals.{Terminal}
 use Rattle.mn_grammar.specs.Kinds.{is_condition}
-use Rattle.mn_grammar.specs.Places.{Break, on, Has}
-use Rattle.mn_grammar.specs.Reading.{Answer, Site, fault_at, refused, ret, judged, classed, one}
-use Rattle.mn_grammar.specs.Lawful.{Spec, IsSite, Lacks, first, answered, answer_of, Sound, IsRead, IsLeft, IsBroken, Said, Complete, Lawful}
+use Rattle.mn_grammar.specs.Places.{Break, on}
+use Rattle.mn_grammar.specs.Reading.{Site, refused, ret, judged, classed, one}
+use Rattle.mn_grammar.specs.Lawful.{Spec, IsSite, Lacks, first, answered, Sound, IsLeft, Said, Complete, Lawful}
 use Rattle.mn_grammar.proofs.Sites.{Lacks-none}
 use Rattle.mn_grammar.specs.declared.Kind.{Kind}
 

@@ -1,17 +1,16 @@
 -- Turn after turn, until one is the last.
-use Rattle.std.proofs.Common.{◌≡◌, ◌⊎◌, ℕ, zero, suc, ◌+◌, ◌<◌, ◌≤◌, Bool, true, false, ◌||◌, ◌&&◌, List, [], ◌∷◌, ◌++◌, length, Option, Some, None, Ok, Err, refl, sym, ap, ◌∙◌, subst, inl, inr, ⊎_elim, arith, append_assoc, append-nil, length-append}
+use Rattle.std.proofs.Common.{◌≡◌, ◌⊎◌, ℕ, zero, suc, ◌<◌, Bool, true, false, ◌||◌, ◌&&◌, List, [], ◌∷◌, ◌++◌, length, Option, Some, None, Ok, Err, refl, sym, ap, ◌∙◌, subst, inl, inr, ⊎_elim, arith, append_assoc, append-nil, length-append}
 use Rattle.std.proofs.lemmas.Bool.{or_cases, and_parts}
 use Rattle.mn_lexer.specs.Terminals.{Terminal}
 use Rattle.mn_grammar.specs.Kinds.{is_condition}
-use Rattle.mn_grammar.specs.Places.{Break, behind, Has}
-use Rattle.mn_grammar.specs.Reading.{Answer, Reader, Site, go_on, then_read, ret, Turn, goes_on, is_done, turned, loop_by, loop}
-use Rattle.mn_grammar.specs.Lawful.{Spec, Fits, Lacks, first, answered, answer_of, Sound, IsRead, Said, Complete, Lawful}
+use Rattle.mn_grammar.specs.Places.{Break, behind}
+use Rattle.mn_grammar.specs.Reading.{Answer, Reader, go_on, then_read, Turn, goes_on, is_done, turned, loop_by, loop}
+use Rattle.mn_grammar.specs.Lawful.{Spec, Fits, Lacks, first, answered, answer_of, Sound, IsRead, Said, Lawful}
 use Rattle.mn_grammar.proofs.Sites.{is_nil, nil_of, Lacks-parts}
 use Rattle.mn_grammar.proofs.Leaves.{nothing, Lawful-ret}
 use Rattle.mn_grammar.proofs.Joins.{joined, Join, first_pair, complete_pair, Said-joined, Lacks-joined}
 use Rattle.mn_grammar.proofs.Views.{IsView, Said-view}
 use Rattle.mn_grammar.specs.declared.Fault.{Fault}
-use Rattle.mn_grammar.specs.declared.Kind.{Kind}
 
 -- the turns of a loop: those that go on, and the last
 pub data Turns (G E : Type 0) : Type 0 where
@@ -147,14 +146,14 @@ module _ {G E S V : Type 0} (turn : S → Spec (G ⊎ E) (Turn S V)) (next : S �
         (r.0, x.1 ++ r.1, r.2)
     turns_extends (more g gs) s t blocks = ⊎_elim
         (λ front.
-            let both = and_parts _ _ front in
-            let x = (sound s).extends (inl g) t both.0 in
-            let r = turn_begins s ((turn s).spell (inl g)) x.0 (t ∷ x.1) x.2 in
-            let none = nil_of ((spec (next s g)).spell gs) both.1 in
-            (r.0, x.1 ++ r.1, r.2 ∙ ap (λ l. l ++ t ∷ (x.1 ++ r.1)) (sym (ap (λ l. (turn s).spell (inl g) ++ l) none ∙ append-nil ((turn s).spell (inl g))))))
+        let both = and_parts _ _ front in
+        let x = (sound s).extends (inl g) t both.0 in
+        let r = turn_begins s ((turn s).spell (inl g)) x.0 (t ∷ x.1) x.2 in
+        let none = nil_of ((spec (next s g)).spell gs) both.1 in
+        (r.0, x.1 ++ r.1, r.2 ∙ ap (λ l. l ++ t ∷ (x.1 ++ r.1)) (sym (ap (λ l. (turn s).spell (inl g) ++ l) none ∙ append-nil ((turn s).spell (inl g))))))
         (λ later.
-            let r = turns_extends gs (next s g) t later in
-            (more g r.0, r.1, ap (λ l. (turn s).spell (inl g) ++ l) r.2 ∙ sym (append_assoc ((turn s).spell (inl g)) ((spec (next s g)).spell gs) (t ∷ r.1))))
+        let r = turns_extends gs (next s g) t later in
+        (more g r.0, r.1, ap (λ l. (turn s).spell (inl g) ++ l) r.2 ∙ sym (append_assoc ((turn s).spell (inl g)) ((spec (next s g)).spell gs) (t ∷ r.1))))
         (or_cases _ _ blocks)
 
     -- the trees of a loop are in order, where those of its turns are
@@ -216,6 +215,7 @@ module _ {G E S V : Type 0} (turn : S → Spec (G ⊎ E) (Turn S V)) (next : S �
       where
         n : ℕ
         n = length ((turn s).spell (inr e))
+
         at : (o : Option Break) → first ((turn s).breaks (inr e)) ≡ o → go_on (answered o n ((turn s).value (inr e)) rest) (turned (loop step)) ≡ answer_of (spec s) (last e) rest
         at None f = ap (λ t. turned (loop step) t rest) (is.ends s e) ∙ ap (λ o. answered o n (result s e) rest) (sym f)
         at (Some k) f = ap (λ o. answered o n (result s e) rest) (sym f)
@@ -225,9 +225,9 @@ module _ {G E S V : Type 0} (turn : S → Spec (G ⊎ E) (Turn S V)) (next : S �
     complete_loop (more g gs) s rest lacks =
         loop_turn s ((spec s).spell (more g gs) ++ rest)
         ∙ complete_pair (turn s) (after s) (join s) (step s) (turned (loop step)) (inl g) gs rest (law s).sound
-            ((law s).complete (inl g) ((spec (next s g)).spell gs ++ rest) (Lacks-joined (turn s) (after s) (join s) (inl g) gs rest lacks))
-            (λ kept. ap (λ t. turned (loop step) t ((spec (next s g)).spell gs ++ rest)) (is.goes s g)
-                ∙ complete_loop gs (next s g) rest (Lacks-parts (λ t. (turn s).blocks (inl g) t && is_nil ((spec (next s g)).spell gs)) ((spec (next s g)).blocks gs) rest lacks).1)
+        ((law s).complete (inl g) ((spec (next s g)).spell gs ++ rest) (Lacks-joined (turn s) (after s) (join s) (inl g) gs rest lacks))
+        (λ kept. ap (λ t. turned (loop step) t ((spec (next s g)).spell gs ++ rest)) (is.goes s g)
+        ∙ complete_loop gs (next s g) rest (Lacks-parts (λ t. (turn s).blocks (inl g) t && is_nil ((spec (next s g)).spell gs)) ((spec (next s g)).blocks gs) rest lacks).1)
 
     -- what is said of a list, where it is said of each shorter one
     said_after : (s : S) (ts : List Terminal) (v : Turn S V) (rest : List Terminal) → ((z : S) → length rest < length ts → Said (spec z) (loop step z) rest (loop step z rest)) → (x : G ⊎ E) → ts ≡ (turn s).spell x ++ rest → (turn s).value x ≡ v → Said (after s x) (turned (loop step) v) rest (turned (loop step) v rest)
@@ -242,9 +242,9 @@ module _ {G E S V : Type 0} (turn : S → Spec (G ⊎ E) (Turn S V)) (next : S �
     said_loop (suc n) s ts size =
         subst (λ read. Said (spec s) read ts (read ts)) (λ i us. sym (loop_turn s us) i)
         (Said-view (joined (turn s) (after s)) (spec s) (view s) (then_read (step s) (turned (loop step))) ts (then_read (step s) (turned (loop step)) ts)
-            (Said-joined (turn s) (after s) (join s) (step s) (turned (loop step)) ts (law s).sound (law s).complete
-                (λ v rest read. said_after s ts v rest (λ z less. said_loop n z rest (omega arith)) read.tree read.parts read.means)
-                (step s ts) ((law s).said ts)))
+        (Said-joined (turn s) (after s) (join s) (step s) (turned (loop step)) ts (law s).sound (law s).complete
+        (λ v rest read. said_after s ts v rest (λ z less. said_loop n z rest (omega arith)) read.tree read.parts read.means)
+        (step s ts) ((law s).said ts)))
 
     -- a loop over a lawful turn is lawful
     pub Lawful-loop : (s : S) → Lawful (spec s) (loop step s)

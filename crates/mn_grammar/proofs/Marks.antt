@@ -1,15 +1,15 @@
 -- Marks as tokens, and their readers.
-use Rattle.std.proofs.Common.{◌≡◌, ◌≢◌, ◌⊎◌, ℕ, Bool, true, false, cond, eqb, List, [], ◌∷◌, get_or, Option, Some, None, is_some, refl, sym, ap, ◌∙◌, subst, inl, inr, ⊎_elim, eq-eqb}
-use Rattle.std.proofs.lemmas.Bool.{cases_Bool, eqb-true}
+use Rattle.std.proofs.Common.{◌≡◌, Bool, true, false, cond, get_or, Option, Some, None, is_some, refl, sym, ap, ◌∙◌, eq-eqb}
+use Rattle.std.proofs.lemmas.Bool.{eqb-true}
 use Rattle.mn_lexer.specs.Terminals.{Terminal, word, number, head, mark}
 use Rattle.mn_lexer.specs.declared.marks.Mark.{Mark}
 use Rattle.mn_lexer.specs.declared.marks.Mark.TheVariants.{OpenSquare, CloseSquare, OpenCurly, CloseCurly, OpenRound, CloseRound, Less, Greater, Comma, Equals, Bang, Dots}
 use Rattle.mn_lexer.specs.Marks.{all_marks}
 use Rattle.mn_grammar.specs.Tokens.{is_mark, mark_number, is_the_mark}
 use Rattle.mn_grammar.specs.Kinds.{is_condition}
-use Rattle.mn_grammar.specs.Reading.{Reader, Site, marks_only, Turn, goes_on, is_done, which_mark, mark_at, which_end, judge_end, end_at}
-use Rattle.mn_grammar.specs.Lawful.{Spec, OnlyMarks, IsSite, Lawful}
-use Rattle.mn_grammar.proofs.Leaves.{leaf, of_class, IsLeaf, Lawful-one}
+use Rattle.mn_grammar.specs.Reading.{Site, marks_only, Turn, goes_on, is_done, which_mark, mark_at, which_end, judge_end, end_at}
+use Rattle.mn_grammar.specs.Lawful.{Spec, OnlyMarks, Lawful}
+use Rattle.mn_grammar.proofs.Leaves.{leaf, Lawful-one}
 use Rattle.mn_grammar.specs.declared.Kind.{Kind}
 
 of_number : (m : Mark) → get_or all_marks (mark_number m) Bang ≡ m

@@ -1,7 +1,6 @@
 -- Forms within forms, down to a depth.
-use Rattle.std.proofs.Common.{◌≡◌, ℕ, zero, suc, ◌<◌, Bool, false, List, [], ◌∷◌, ◌++◌, length, Option, Some, None, refl, sym, ap, ◌∙◌, subst, arith}
+use Rattle.std.proofs.Common.{◌≡◌, ℕ, zero, suc, ◌<◌, false, List, [], Option, Some, None, refl, subst, arith}
 use Rattle.mn_lexer.specs.Terminals.{Terminal}
-use Rattle.mn_grammar.specs.Places.{Break}
 use Rattle.mn_grammar.specs.Reading.{Reader, Site, then_read, within, never}
 use Rattle.mn_grammar.specs.Lawful.{Spec, Sound, Lawful}
 use Rattle.mn_grammar.proofs.Joins.{joined, Join, Lawful-then}
@@ -39,19 +38,19 @@ module _ {D A V W X : Type 0} {Y : A → Type 0} (inner : D → Option D) (size 
       at_depth : (d : D) (o : Option D) → inner d ≡ o → ((e : D) → o ≡ Some e → Lawful (spec e) (read e)) → Lawful (joined (name d) (behind_name after last spec d o)) (then_read (name_at d) (after_at d (within read o)))
       at_depth d None e laws =
           Lawful-then (name d) (last d) (subst (λ o. Join (name d) (behind_name after last spec d o)) e (is.joins d)) (name_at d) (after_at d never) (is.names d)
-              (is.deepest d e)
-              (is.deepest_reads d e)
+          (is.deepest d e)
+          (is.deepest_reads d e)
       at_depth d (Some i) e laws =
           Lawful-then (name d) (after d (spec i)) (subst (λ o. Join (name d) (behind_name after last spec d o)) e (is.joins d)) (name_at d) (after_at d (read i)) (is.names d)
-              (λ a. (is.deeper d i e (laws i refl) a).sound)
-              (λ a kept. is.deeper d i e (laws i refl) a)
+          (λ a. (is.deeper d i e (laws i refl) a).sound)
+          (λ a kept. is.deeper d i e (laws i refl) a)
 
       up_to : (n : ℕ) (d : D) → size d < n → Lawful (spec d) (read d)
       up_to zero d small = absurd (omega arith)
       up_to (suc n) d small =
           Lawful-same (spec d) (then_read (name_at d) (after_at d (within read (inner d)))) (read d) (is.turn d)
           (Lawful-view (joined (name d) (behind_name after last spec d (inner d))) (spec d) (is.view d) (then_read (name_at d) (after_at d (within read (inner d))))
-              (at_depth d (inner d) refl (λ e f. up_to n e (let fewer = is.smaller d e f in omega arith))))
+          (at_depth d (inner d) refl (λ e f. up_to n e (let fewer = is.smaller d e f in omega arith))))
 
       -- so the forms of each depth are lawful
       pub nest_law : (d : D) → Lawful (spec d) (read d)

@@ -1,14 +1,12 @@
 -- What a lawful reader's answer tells of all trees.
-use Rattle.std.proofs.Common.{◌≡◌, ◌⊎◌, ℕ, ◌+◌, ◌-◌, ◌<◌, ◌≤◌, Bool, true, false, List, [], ◌∷◌, ◌++◌, length, Option, Some, None, Ok, Err, Result, refl, sym, ap, ◌∙◌, subst, inl, inr, arith, append-nil, length-append}
+use Rattle.std.proofs.Common.{◌≡◌, ◌+◌, ◌-◌, Bool, true, false, List, [], ◌∷◌, ◌++◌, length, Option, Some, None, Ok, Err, refl, sym, ap, ◌∙◌, append-nil}
 use Rattle.mn_lexer.specs.Terminals.{Terminal}
 use Rattle.mn_grammar.specs.Kinds.{is_condition}
-use Rattle.mn_grammar.specs.Places.{Break, Has, IsFine}
-use Rattle.mn_grammar.specs.Reading.{Answer, Reader, Site, refused, fault_at, kind_at}
-use Rattle.mn_grammar.specs.Lawful.{Spec, IsSite, Lacks, first, answered, answer_of, Sound, IsRead, IsLeft, IsBroken, Said, Complete, Lawful}
-use Rattle.mn_grammar.proofs.Breaks.{IsFirst, first_is}
-use Rattle.mn_grammar.proofs.Sites.{kind_of_site, Lacks-none}
+use Rattle.mn_grammar.specs.Places.{Break}
+use Rattle.mn_grammar.specs.Reading.{Answer, Reader, refused}
+use Rattle.mn_grammar.specs.Lawful.{Spec, Lacks, first, answered, answer_of, Sound, IsLeft, Complete}
+use Rattle.mn_grammar.proofs.Sites.{kind_of_site}
 use Rattle.mn_grammar.specs.declared.Fault.{Fault}
-use Rattle.mn_grammar.specs.declared.Kind.{Kind}
 
 -- two answers that are one
 pub same_fault : {V : Type 0} (e f : Fault) → ◌≡◌ {A = Answer V} (Err e) (Err f) → e ≡ f

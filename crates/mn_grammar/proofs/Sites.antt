@@ -1,11 +1,11 @@
 -- What is wanted at a place, and lists that don't begin with certain tokens.
-use Rattle.std.proofs.Common.{◌≡◌, ◌⊎◌, ℕ, Bool, true, false, cond, not, ◌||◌, ◌&&◌, List, [], ◌∷◌, ◌++◌, length, Option, Some, None, is_some, refl, sym, ap, ◌∙◌, subst, inl, inr, ⊎_elim, arith}
-use Rattle.std.proofs.lemmas.Bool.{cases_Bool, or_cases, or_parts, or_from, or_right, and_parts}
+use Rattle.std.proofs.Common.{◌≡◌, Bool, true, false, cond, not, ◌||◌, ◌&&◌, List, [], ◌∷◌, ◌++◌, refl, sym, ◌∙◌, subst, inl, inr}
+use Rattle.std.proofs.lemmas.Bool.{or_parts, or_from, or_right}
 use Rattle.mn_lexer.specs.Terminals.{Terminal, word, number, head, mark}
 use Rattle.mn_grammar.specs.Tokens.{is_head, is_mark, is_known_head}
 use Rattle.mn_grammar.specs.Kinds.{is_condition}
 use Rattle.mn_grammar.specs.Reading.{Site, marks_only, free, fixed, mixed, kind_at}
-use Rattle.mn_grammar.specs.Lawful.{IsOpen, IsClosed, NoHead, OnlyMarks, IsSite, Fits, Lacks}
+use Rattle.mn_grammar.specs.Lawful.{IsOpen, OnlyMarks, IsSite, Fits, Lacks}
 use Rattle.mn_grammar.specs.declared.Kind.TheVariants.{Unsupported, Syntax}
 
 either_kind : (b : Bool) → is_condition (cond b Unsupported Syntax) ≡ false

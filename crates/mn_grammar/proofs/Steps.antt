@@ -1,18 +1,17 @@
 -- Steps that most rules are made of: a token and what follows it, a mark and what follows it, another value.
-use Rattle.std.proofs.Common.{◌≡◌, ◌⊎◌, ℕ, Bool, true, false, ◌||◌, ◌&&◌, List, [], ◌∷◌, ◌++◌, length, Option, Some, None, Ok, Err, refl, sym, ap, ◌∙◌, subst, inl, inr}
+use Rattle.std.proofs.Common.{◌≡◌, ℕ, Bool, true, false, ◌||◌, ◌&&◌, List, [], ◌∷◌, ◌++◌, length, Option, Some, None, Ok, Err, refl, sym, ap, ◌∙◌, subst, inl, inr}
 use Rattle.mn_lexer.specs.Terminals.{Terminal, mark}
 use Rattle.mn_lexer.specs.declared.marks.Mark.{Mark}
 use Rattle.mn_grammar.specs.Kinds.{is_condition}
 use Rattle.mn_grammar.specs.Places.{Break, on, behind}
 use Rattle.mn_grammar.specs.Reading.{Answer, Reader, Site, marks_only, go_on, then_read, ret, or_else, mark_at}
-use Rattle.mn_grammar.specs.Lawful.{Spec, OnlyMarks, Fits, Lacks, first, answered, answer_of, Sound, IsRead, IsLeft, IsBroken, Said, Lawful}
+use Rattle.mn_grammar.specs.Lawful.{Spec, OnlyMarks, Fits, first, answered, Sound, Said, Lawful}
 use Rattle.mn_grammar.proofs.Sites.{Fits-nothing}
 use Rattle.mn_grammar.proofs.Leaves.{leaf, nothing, Lawful-ret}
 use Rattle.mn_grammar.proofs.Marks.{a_mark, Lawful-mark}
 use Rattle.mn_grammar.proofs.Joins.{joined, Join, Lawful-then}
 use Rattle.mn_grammar.proofs.Choices.{either, Lawful-or}
-use Rattle.mn_grammar.proofs.Views.{IsView, Lawful-view}
-use Rattle.mn_grammar.specs.declared.Fault.{Fault}
+use Rattle.mn_grammar.proofs.Views.{Lawful-view}
 use Rattle.mn_grammar.specs.declared.Kind.{Kind}
 
 -- behind a leaf anything may stand
@@ -115,7 +114,7 @@ module _ {Y W : Type 0} (m : Mark) (c : Option Kind) (kinds : (kind : Kind) → 
       })
       (then_read (mark_at marks_only m c) (λ u. rb))
       (Lawful-then (a_mark marks_only m c) (λ u. b) (join_leaf marks_only (λ u. mark m) (λ u. u) (λ u. c) tt (λ u. b)) (mark_at marks_only m c) (λ u. rb)
-          (Lawful-mark m c kinds) (λ u. sound) (λ u kept. law (none_of c kept)))
+      (Lawful-mark m c kinds) (λ u. sound) (λ u kept. law (none_of c kept)))
 
 -- a mark with a condition on it, which is the last
 abbrev pub mark_last : {W : Type 0} → Mark → Option Kind → W → Spec (Unit {0}) W

@@ -1,12 +1,10 @@
 -- The same language with other trees, and the same reader written otherwise.
-use Rattle.std.proofs.Common.{◌≡◌, ◌⊎◌, ℕ, ◌<◌, Bool, true, false, List, [], ◌∷◌, ◌++◌, length, Option, Some, None, Ok, Err, refl, sym, ap, ◌∙◌, subst, inl, inr}
+use Rattle.std.proofs.Common.{◌≡◌, ◌<◌, List, [], ◌∷◌, ◌++◌, length, Ok, Err, sym, ap, ◌∙◌, subst, inl, inr}
 use Rattle.mn_lexer.specs.Terminals.{Terminal}
-use Rattle.mn_grammar.specs.Places.{Break, Has, IsFine}
-use Rattle.mn_grammar.specs.Reading.{Answer, Reader, Site}
-use Rattle.mn_grammar.specs.Lawful.{Spec, IsSite, Lacks, first, answered, answer_of, Sound, IsRead, IsLeft, IsBroken, Said, Complete, Lawful}
+use Rattle.mn_grammar.specs.Places.{IsFine}
+use Rattle.mn_grammar.specs.Reading.{Answer, Reader}
+use Rattle.mn_grammar.specs.Lawful.{Spec, Lacks, first, answered, answer_of, Sound, Said, Lawful}
 use Rattle.mn_grammar.proofs.Breaks.{none_first, lies_alike}
-use Rattle.mn_grammar.specs.declared.Fault.{Fault}
-use Rattle.mn_grammar.specs.declared.Kind.{Kind}
 
 module _ {X Y V : Type 0} (s : Spec X V) (u : Spec Y V) where
   -- each tree of s is one of u, and each of u comes from one of s: spelled alike, with the same first break and value

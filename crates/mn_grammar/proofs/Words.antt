@@ -1,12 +1,12 @@
 -- Names, numbers, words and heads as tokens, and their readers.
-use Rattle.std.proofs.Common.{◌≡◌, ℕ, ℤ, Bool, true, false, cond, List, [], ◌∷◌, codes, pos, Option, Some, None, is_some, refl, sym, ap, ◌∙◌, subst, inl, inr, bytes_eq}
+use Rattle.std.proofs.Common.{◌≡◌, ℕ, ℤ, Bool, true, false, cond, List, codes, pos, Option, Some, None, is_some, refl, ap, ◌∙◌, inl, inr, bytes_eq}
 use Rattle.std.proofs.lemmas.Slice.Eq.{bytes_eq-Decides}
 use Rattle.mn_lexer.specs.Terminals.{Terminal, word, number, head, mark}
-use Rattle.mn_grammar.specs.Tokens.{Name, is_name, name_of, number_of, is_number, is_head, is_mark, is_the_word, is_the_head}
+use Rattle.mn_grammar.specs.Tokens.{Name, is_name, name_of, number_of, is_number, is_head, is_the_word, is_the_head}
 use Rattle.mn_grammar.specs.Kinds.{is_condition}
-use Rattle.mn_grammar.specs.Reading.{Site, free, fixed, which_word, which_head, name_at, number_at, word_at, head_at}
+use Rattle.mn_grammar.specs.Reading.{free, fixed, which_word, which_head, name_at, number_at, word_at, head_at}
 use Rattle.mn_grammar.specs.Lawful.{Spec, Lawful, a_name}
-use Rattle.mn_grammar.proofs.Leaves.{leaf, IsLeaf, Lawful-one}
+use Rattle.mn_grammar.proofs.Leaves.{leaf, Lawful-one}
 use Rattle.mn_grammar.specs.declared.Kind.{Kind}
 
 -- names

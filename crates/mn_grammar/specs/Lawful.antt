@@ -1,9 +1,9 @@
 -- The law of a reader: it reads the trees of a language, and refuses at the right token.
-use Rattle.std.specs.Prelude.{◌≡◌, ◌⊎◌, ℕ, ◌+◌, ◌-◌, ◌<◌, ◌==◌, ltb, ◌||◌, ◌&&◌, Bool, true, false, List, [], ◌∷◌, ◌++◌, length, Option, Some, None, Result, Ok, Err, if◌then◌else◌, codes, pos}
+use Rattle.std.specs.Prelude.{◌≡◌, ◌⊎◌, ℕ, ◌+◌, ◌-◌, ◌<◌, ◌==◌, ltb, ◌||◌, ◌&&◌, Bool, true, false, List, [], ◌∷◌, ◌++◌, length, Option, Some, None, Ok, Err, if◌then◌else◌, codes, pos}
 use Rattle.mn_lexer.specs.Terminals.{Terminal, word, number}
 use Rattle.mn_grammar.specs.Tokens.{name_of, is_head, is_mark, is_number}
 use Rattle.mn_grammar.specs.Kinds.{rank, is_condition}
-use Rattle.mn_grammar.specs.Places.{Break, Has, IsFine}
+use Rattle.mn_grammar.specs.Places.{Break, IsFine}
 use Rattle.mn_grammar.specs.Reading.{Answer, Reader, Site, marks_only, free, fixed, mixed, fault_at, refused}
 use Rattle.mn_grammar.specs.declared.Fault.{Fault}
 use Rattle.mn_grammar.specs.declared.Kind.{Kind}

@@ -1,11 +1,11 @@
 -- Bracketed lists, behind the mark that opens them.
-use Rattle.std.specs.Prelude.{Bool, true, false, List, [], ◌∷◌, ◌++◌, length, Option, Some, None}
+use Rattle.std.specs.Prelude.{List, [], ◌∷◌, ◌++◌, length, Option, Some, None}
 use Rattle.mn_lexer.specs.Terminals.{Terminal, mark}
 use Rattle.mn_lexer.specs.declared.marks.Mark.{Mark}
 use Rattle.mn_lexer.specs.declared.marks.Mark.TheVariants.{Comma}
 use Rattle.mn_grammar.specs.Tokens.{is_the_mark}
 use Rattle.mn_grammar.specs.Places.{Break, on, behind}
-use Rattle.mn_grammar.specs.Reading.{Reader, Site, marks_only, Turn, goes_on, is_done, then_read, ret, or_else, loop, mark_at, end_at}
+use Rattle.mn_grammar.specs.Reading.{Reader, marks_only, Turn, then_read, ret, or_else, loop, mark_at, end_at}
 use Rattle.mn_grammar.specs.declared.Kind.{Kind}
 
 -- one or more entries

@@ -1,6 +1,6 @@
 -- Readers of token lists, and the parts that they are made of. No public promise speaks of them: they stand
 -- between the definitions of a language and the code that reads it.
-use Rattle.std.specs.Prelude.{ℕ, ℤ, zero, suc, Bool, not, ◌&&◌, ◌==◌, List, [], ◌∷◌, length, Option, Some, None, Result, Ok, Err, if◌then◌else◌}
+use Rattle.std.specs.Prelude.{ℕ, ℤ, zero, suc, Bool, not, ◌&&◌, List, [], ◌∷◌, length, Option, Some, None, Result, Ok, Err, if◌then◌else◌}
 use Rattle.mn_lexer.specs.Terminals.{Terminal}
 use Rattle.mn_lexer.specs.declared.LexFault.{LexFault}
 use Rattle.mn_lexer.specs.declared.marks.Mark.{Mark}
