@@ -1,8 +1,8 @@
 -- Lists of what is broken, and the first of them.
-use Rattle.std.proofs.Common.{◌≡◌, ◌⊎◌, ℕ, ◌+◌, ◌<◌, ◌≤◌, true, false, cond, ltb, eqb, List, [], ◌∷◌, ◌++◌, get_or, Option, Some, None, refl, sym, ap, ap₂, ◌∙◌, subst, inl, inr, ⊎_elim, arith, append-nil}
+use Rattle.std.proofs.Common.{◌≡◌, ◌⊎◌, ℕ, ◌+◌, ◌<◌, ◌≤◌, Bool, true, false, cond, ltb, eqb, List, [], ◌∷◌, ◌++◌, get_or, Option, Some, None, refl, sym, ap, ap₂, ◌∙◌, subst, inl, inr, ⊎_elim, arith, append-nil}
 use Rattle.std.proofs.lemmas.Bool.{cases_Bool, and_parts, or_cases, or_parts, and_cases, ltb-true, ltb-false, eqb-true, eqb-false}
-use Rattle.mn_grammar.specs.Kinds.{rank}
-use Rattle.mn_grammar.specs.Places.{Break, on, behind, Has}
+use Rattle.mn_grammar.specs.Kinds.{rank, is_condition}
+use Rattle.mn_grammar.specs.Places.{Break, when, on, behind, Has}
 use Rattle.mn_grammar.specs.Lawful.{is_before, earlier, first}
 use Rattle.mn_grammar.specs.declared.Kind.{Kind}
 use Rattle.mn_grammar.specs.declared.Kind.TheVariants.{Lex, NumberRange, Unsupported, Syntax, Again, Name, EmptyDomain, Limit, Shape}
@@ -258,3 +258,18 @@ on_both (Some j) (Some k) below =
           (λ later. ⊎_elim (λ (there : (0 ≡ place) × (k ≡ kind)). inr (there.0, let e = ap rank there.1 in omega arith)) (λ none. absurd none) later)
           has,
     )
+
+-- the kind of a condition that is broken where a test holds
+pub kind_when : (b : Bool) (j : Kind) → is_condition j ≡ true → (k : Kind) → when b j ≡ Some k → is_condition k ≡ true
+kind_when true j is k e = let same : j ≡ k = cc in subst (λ x. is_condition x ≡ true) same is
+kind_when false j is k e = cc
+
+pub kind_or : (c d : Option Kind) → ((k : Kind) → c ≡ Some k → is_condition k ≡ true) → ((k : Kind) → d ≡ Some k → is_condition k ≡ true) → (k : Kind) → or_then c d ≡ Some k → is_condition k ≡ true
+kind_or None d a b k e = b k e
+kind_or (Some j) d a b k e = a k e
+
+-- two of them on one token
+pub on_when : (b c : Bool) (j k : Kind) → rank j ≤ rank k → first (on (when b j) ++ on (when c k)) ≡ first (on (or_then (when b j) (when c k)))
+on_when true true j k below = on_both (Some j) (Some k) (λ x y e f. let p : j ≡ x = cc in let q : k ≡ y = cc in subst (λ z. rank z ≤ rank y) p (subst (λ z. rank j ≤ rank z) q below))
+on_when true false j k below = refl
+on_when false c j k below = refl

@@ -1,15 +1,15 @@
 -- A small language, to show how a reader is proved exact: `MINION`, names, `**EOF**`. Each name stands once, and there
 -- are two at most.
-use Rattle.std.proofs.Common.{◌≡◌, ◌⊎◌, ℕ, ◌≤◌, Bool, true, false, cond, ltb, ◌||◌, List, [], ◌∷◌, ◌++◌, length, codes, Option, Some, None, is_some, Ok, Err, Result, refl, sym, ap, ◌∙◌, inl, inr, bytes_eq, if◌then◌else◌, arith}
+use Rattle.std.proofs.Common.{◌≡◌, ◌⊎◌, ℕ, ◌≤◌, Bool, true, false, cond, leb, ◌||◌, List, [], ◌∷◌, ◌++◌, length, codes, Option, Some, None, is_some, Ok, Err, Result, refl, sym, ap, ◌∙◌, inl, inr, bytes_eq, if◌then◌else◌, arith}
 use Rattle.mn_lexer.specs.Terminals.{Terminal, word, number, head, mark}
 use Rattle.mn_lexer.specs.declared.LexFault.{LexFault}
 use Rattle.mn_grammar.specs.Tokens.{Name, is_name, name_of}
 use Rattle.mn_grammar.specs.Kinds.{rank, is_condition}
-use Rattle.mn_grammar.specs.Places.{Break, on, behind}
+use Rattle.mn_grammar.specs.Places.{Break, when, on, behind}
 use Rattle.mn_grammar.specs.Reading.{Reader, mixed, fixed, Turn, goes_on, is_done, one, ret, then_read, loop, word_at, whole}
 use Rattle.mn_grammar.specs.Lawful.{Spec, first, Lawful}
 use Rattle.mn_grammar.specs.Laws.{IsExact}
-use Rattle.mn_grammar.proofs.Breaks.{alike_append, alike_behind, or_then, on_both}
+use Rattle.mn_grammar.proofs.Breaks.{alike_append, alike_behind, or_then, on_when, kind_when, kind_or}
 use Rattle.mn_grammar.proofs.Leaves.{leaf, Lawful-one}
 use Rattle.mn_grammar.proofs.Words.{name_token, of_name, the_head, a_word_leaf, Lawful-word}
 use Rattle.mn_grammar.proofs.Joins.{joined, Lawful-then}
@@ -37,10 +37,10 @@ has_bytes [] w = false
 has_bytes (v ∷ vs) w = bytes_eq v w || has_bytes vs w
 
 abbrev once : List (List ℕ) → List ℕ → Option Kind
-once seen w = if has_bytes seen w then Some kinds.Name else None
+once seen w = when (has_bytes seen w) kinds.Name
 
 abbrev room : List (List ℕ) → Option Kind
-room seen = if ltb (length seen) 2 then None else Some (kinds.Limit limits.Variables)
+room seen = when (leb 2 (length seen)) (kinds.Limit limits.Variables)
 
 abbrev breaks_names : List Name → List (List ℕ) → List Break
 breaks_names [] seen = []
@@ -121,22 +121,10 @@ back (mark m) w e = cc
 names_wanted : (t : Terminal) (w : List ℕ) → name_of t ≡ Some w → is_some (name_or_end t) ≡ true
 names_wanted t w e = let n = of_name t w e in ap (λ u. is_some (name_or_end u)) n.1 ∙ ap (λ o. is_some o) (forth (inl n.0))
 
-rank_below : (seen : List (List ℕ)) (w : List ℕ) (j k : Kind) → once seen w ≡ Some j → room seen ≡ Some k → rank j ≤ rank k
-rank_below seen w j k e f = at (has_bytes seen w) (ltb (length seen) 2) e f
-  where
-    at : (b c : Bool) → cond b (Some kinds.Name) None ≡ Some j → cond c None (Some (kinds.Limit limits.Variables)) ≡ Some k → rank j ≤ rank k
-    at true false e f = let x : kinds.Name ≡ j = cc in let y : kinds.Limit limits.Variables ≡ k = cc in let p = ap rank x in let q = ap rank y in omega arith
-    at true true e f = cc
-    at false c e f = cc
-
 judge_kinds : (seen : List (List ℕ)) (w : Option (List ℕ)) (kind : Kind) → judge seen w ≡ Some kind → is_condition kind ≡ true
 judge_kinds seen None kind e = cc
-judge_kinds seen (Some w) kind e = at (has_bytes seen w) (ltb (length seen) 2) e
-  where
-    at : (b c : Bool) → or_then (cond b (Some kinds.Name) None) (cond c None (Some (kinds.Limit limits.Variables))) ≡ Some kind → is_condition kind ≡ true
-    at true c e = let x : kinds.Name ≡ kind = cc in ap is_condition (sym x)
-    at false true e = cc
-    at false false e = let x : kinds.Limit limits.Variables ≡ kind = cc in ap is_condition (sym x)
+judge_kinds seen (Some w) kind e =
+    kind_or (once seen w) (room seen) (kind_when (has_bytes seen w) kinds.Name refl) (kind_when (leb 2 (length seen)) (kinds.Limit limits.Variables) refl) kind e
 
 abbrev a_turn : List (List ℕ) → Spec (Name ⊎ Unit {0}) (Turn (List (List ℕ)) (List (List ℕ)))
 a_turn seen = valued (turn_of seen) (leaf mixed token value (judge seen) (inr tt))
@@ -187,7 +175,7 @@ names_breaks : (gs : Turns Name (Unit {0})) (seen : List (List ℕ)) → first (
 names_breaks (last u) seen = refl
 names_breaks (more n gs) seen =
     alike_append (on (once seen n.bytes) ++ on (room seen)) (on (judge seen (Some n.bytes))) _ _
-    (on_both (once seen n.bytes) (room seen) (rank_below seen n.bytes))
+    (on_when (has_bytes seen n.bytes) (leb 2 (length seen)) kinds.Name (kinds.Limit limits.Variables) (omega arith))
     (alike_behind 1 (breaks_names (names_onto gs) (n.bytes ∷ seen)) ((looped (n.bytes ∷ seen)).breaks gs) (names_breaks gs (n.bytes ∷ seen)))
 
 names_value : (gs : Turns Name (Unit {0})) (seen : List (List ℕ)) → value_names (names_onto gs) seen ≡ (looped seen).value gs

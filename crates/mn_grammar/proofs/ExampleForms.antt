@@ -5,12 +5,12 @@ use Rattle.mn_lexer.specs.Terminals.{Terminal, word, number, mark}
 use Rattle.mn_lexer.specs.declared.marks.Mark.TheVariants.{OpenCurly, CloseCurly, OpenRound, CloseRound, Comma}
 use Rattle.mn_grammar.specs.Tokens.{is_the_mark, is_the_word}
 use Rattle.mn_grammar.specs.Kinds.{is_condition}
-use Rattle.mn_grammar.specs.Places.{Break, on, behind}
+use Rattle.mn_grammar.specs.Places.{Break, when, on, behind}
 use Rattle.mn_grammar.specs.Reading.{Reader, fixed, free, marks_only, one, ret, then_read, loop, mark_at, end_at, number_at, never, within, whole}
 use Rattle.mn_grammar.specs.Lawful.{Spec, first, Sound, Lawful}
 use Rattle.mn_grammar.specs.Lists.{Items, final, also, spell_items, spell_maybe, Ends, Judge, breaks_items, value_items, value_maybe, items_at, maybe_at}
 use Rattle.mn_grammar.specs.Rows.{Sorts, Arguments, row_at}
-use Rattle.mn_grammar.proofs.Breaks.{behind_behind, alike_append, alike_behind}
+use Rattle.mn_grammar.proofs.Breaks.{behind_behind, alike_append, alike_behind, kind_when}
 use Rattle.mn_grammar.proofs.Leaves.{leaf, Lawful-one}
 use Rattle.mn_grammar.proofs.Words.{Lawful-number, the_word}
 use Rattle.mn_grammar.proofs.Joins.{joined}
@@ -47,7 +47,7 @@ abbrev mutual
   spell_forms (and_more f fs) = spell_form f ++ mark Comma ∷ spell_forms fs
 
 abbrev in_order : ℤ → ℤ → Option Kind
-in_order a b = if int_lt b a then Some kinds.Shape else None
+in_order a b = when (int_lt b a) kinds.Shape
 
 abbrev deep : ℕ → Option Kind
 deep zero = Some (kinds.Limit limits.Nesting)
@@ -292,11 +292,7 @@ behind_kinds : (s : Sort) (vs : List ℤ) (kind : Kind) → behind_num s vs ≡ 
 behind_kinds s [] kind e = cc
 behind_kinds s (a ∷ []) kind e = cc
 behind_kinds s (a ∷ b ∷ c ∷ vs) kind e = cc
-behind_kinds s (a ∷ b ∷ []) kind e = at (int_lt b a) e
-  where
-    at : (x : Bool) → cond x (Some kinds.Shape) None ≡ Some kind → is_condition kind ≡ true
-    at true e = let same : kinds.Shape ≡ kind = cc in ap is_condition (sym same)
-    at false e = cc
+behind_kinds s (a ∷ b ∷ []) kind e = kind_when (int_lt b a) kinds.Shape refl kind e
 
 numbers_law : Lawful numbers (row_at behind_num (λ s vs. number_at (λ z. None)) row)
 numbers_law = row_law sorts (λ s z t. false) (λ s. free) (λ s. pos 0)

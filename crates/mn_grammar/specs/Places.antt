@@ -1,5 +1,5 @@
 -- Which lists of tokens are a text of a language, and where and why the others are refused.
-use Rattle.std.specs.Prelude.{◌≡◌, ◌⊎◌, ℕ, ◌+◌, ◌≤◌, true, false, List, [], ◌∷◌, ◌++◌, length, Option, Some, None}
+use Rattle.std.specs.Prelude.{◌≡◌, ◌⊎◌, ℕ, ◌+◌, ◌≤◌, true, false, List, [], ◌∷◌, ◌++◌, length, Option, Some, None, Bool}
 use Rattle.mn_lexer.specs.Terminals.{Terminal}
 use Rattle.mn_lexer.specs.declared.LexFault.{LexFault}
 use Rattle.mn_grammar.specs.Tokens.{name_of, is_head, is_mark, is_number, is_known_head}
@@ -11,6 +11,11 @@ use Rattle.mn_grammar.specs.declared.Kind.TheVariants.{Unsupported, Syntax}
 -- What a tree breaks is a list of them, in any order, written in two words.
 abbrev pub Break : Type 0
 Break = ℕ × Kind
+
+-- a condition that is broken where the test holds
+abbrev pub when : Bool → Kind → Option Kind
+when true kind = Some kind
+when false kind = None
 
 -- what a condition on one token gives: None where it is kept
 abbrev pub on : Option Kind → List Break
