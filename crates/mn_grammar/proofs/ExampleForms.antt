@@ -1,6 +1,7 @@
--- Another small language: `less(1,2)` and `any{..}` of any number of forms, one within another. It shows a row of
--- arguments with a condition on the values so far, a list that may be empty, and nesting to a depth.
-use Rattle.std.proofs.Common.{◌≡◌, ℕ, ℤ, zero, suc, ◌+◌, ◌<◌, Bool, true, false, cond, List, [], ◌∷◌, ◌++◌, length, codes, pos, int_lt, Option, Some, None, Ok, Err, Result, refl, sym, ap, ◌∙◌, if◌then◌else◌, arith, append-nil}
+-- Another small language: `less(1,2)` and `any{..}` of any number of forms, one within another, with three `less` in
+-- all. It shows a row of arguments with a condition on the values so far, a list that may be empty, nesting to a depth,
+-- and a state that goes through all of it.
+use Rattle.std.proofs.Common.{◌≡◌, ℕ, ℤ, zero, suc, ◌+◌, ◌<◌, Bool, true, false, cond, List, [], ◌∷◌, ◌++◌, length, codes, pos, int_lt, leb, Option, Some, None, Ok, Err, Result, refl, sym, ap, ◌∙◌, if◌then◌else◌, arith, append-nil}
 use Rattle.mn_lexer.specs.Terminals.{Terminal, word, number, mark}
 use Rattle.mn_lexer.specs.declared.marks.Mark.TheVariants.{OpenCurly, CloseCurly, OpenRound, CloseRound, Comma}
 use Rattle.mn_grammar.specs.Tokens.{is_the_mark, is_the_word}
@@ -24,7 +25,7 @@ use Rattle.mn_grammar.specs.declared.Kind.{Kind}
 use Rattle.mn_grammar.specs.declared.Kind.TheVariants as kinds
 use Rattle.mn_grammar.specs.declared.Limit.TheVariants as limits
 
--- 1. The language: trees, spelling, conditions by the depth that is left, and the number of `less` as the value
+-- 1. The language: trees, spelling, conditions by the depth that is left
 mutual
   data Form : Type 0 where
     less : ℤ → ℤ → Form
@@ -53,32 +54,37 @@ abbrev deep : ℕ → Option Kind
 deep zero = Some (kinds.Limit limits.Nesting)
 deep (suc d) = None
 
-abbrev mutual
-  breaks_form : Form → ℕ → List Break
-  breaks_form (less a b) d = behind 5 (on (in_order a b))
-  breaks_form any_of_none d = on (deep d)
-  breaks_form (any_of fs) zero = on (deep zero)
-  breaks_form (any_of fs) (suc d) = behind 2 (breaks_forms fs d)
+abbrev room : ℕ → Option Kind
+room n = when (leb 3 n) (kinds.Limit limits.Constraints)
 
-  breaks_forms : Forms → ℕ → List Break
-  breaks_forms (only f) d = breaks_form f d
-  breaks_forms (and_more f fs) d = breaks_form f d ++ behind (length (spell_form f)) (behind 1 (breaks_forms fs d))
-
+-- the number of `less` behind a form, by that before it
 abbrev mutual
-  value_form : Form → ℕ
-  value_form (less a b) = 1
-  value_form any_of_none = 0
-  value_form (any_of fs) = value_forms fs 0
+  value_form : Form → ℕ → ℕ
+  value_form (less a b) n = suc n
+  value_form any_of_none n = n
+  value_form (any_of fs) n = value_forms fs n
 
   value_forms : Forms → ℕ → ℕ
-  value_forms (only f) n = n + value_form f
-  value_forms (and_more f fs) n = value_forms fs (n + value_form f)
+  value_forms (only f) n = value_form f n
+  value_forms (and_more f fs) n = value_forms fs (value_form f n)
 
-abbrev form_spec : ℕ → Spec Form ℕ
-form_spec d = record {
+abbrev mutual
+  breaks_form : Form → ℕ → ℕ → List Break
+  breaks_form (less a b) d n = on (room n) ++ behind 5 (on (in_order a b))
+  breaks_form any_of_none d n = on (deep d)
+  breaks_form (any_of fs) zero n = on (deep zero)
+  breaks_form (any_of fs) (suc d) n = behind 2 (breaks_forms fs d n)
+
+  breaks_forms : Forms → ℕ → ℕ → List Break
+  breaks_forms (only f) d n = breaks_form f d n
+  breaks_forms (and_more f fs) d n =
+      breaks_form f d n ++ behind (length (spell_form f)) (behind 1 (breaks_forms fs d (value_form f n)))
+
+abbrev form_spec : ℕ → ℕ → Spec Form ℕ
+form_spec d n = record {
   spell = spell_form;
-  breaks = λ f. breaks_form f d;
-  value = value_form;
+  breaks = λ f. breaks_form f d n;
+  value = λ f. value_form f n;
   blocks = λ f t. false;
   start = fixed;
   any = any_of_none;
@@ -106,11 +112,11 @@ sorts = record {
 abbrev row : List Sort
 row = a_num ∷ a_num ∷ []
 
-abbrev summed : Ends ℕ ℕ
-summed = record { next = λ n v. n + v; comma = λ n v. None; close = λ n v. None }
+abbrev counted : Ends ℕ ℕ
+counted = record { next = λ n v. v; comma = λ n v. None; close = λ n v. None }
 
-abbrev sum_of : ℕ → ℕ → ℕ
-sum_of n v = n + v
+abbrev count : ℕ → ℕ → ℕ
+count n v = v
 
 abbrev token : Bool → Terminal
 token true = word (codes "any")
@@ -119,57 +125,57 @@ token false = word (codes "less")
 abbrev which_form : Terminal → Option Bool
 which_form t = if is_the_word (codes "any") t then Some true else (if is_the_word (codes "less") t then Some false else None)
 
-abbrev judge : ℕ → Bool → Option Kind
-judge d true = deep d
-judge d false = None
+abbrev judge : ℕ → ℕ → Bool → Option Kind
+judge d n true = deep d
+judge d n false = room n
 
 -- 3. The reader
-abbrev name_at : ℕ → Reader Bool
-name_at d = one fixed which_form (judge d)
+abbrev name_at : ℕ → ℕ → Reader Bool
+name_at d n = one fixed which_form (judge d n)
 
-abbrev after_at : ℕ → Reader ℕ → Bool → Reader ℕ
-after_at d inside true = then_read (mark_at marks_only OpenCurly None) (λ u. maybe_at CloseCurly summed None 0 sum_of (λ n. inside) 0)
-after_at d inside false =
-    then_read (mark_at marks_only OpenRound None) (λ u. then_read (row_at behind_num (λ s vs. number_at (λ z. None)) row) (λ vs. ret 1))
+abbrev after_at : ℕ → ℕ → (ℕ → Reader ℕ) → Bool → Reader ℕ
+after_at d n inside true = then_read (mark_at marks_only OpenCurly None) (λ u. maybe_at CloseCurly counted None n count inside n)
+after_at d n inside false =
+    then_read (mark_at marks_only OpenRound None) (λ u. then_read (row_at behind_num (λ s vs. number_at (λ z. None)) row) (λ vs. ret (suc n)))
 
-abbrev form_at : ℕ → Reader ℕ
-form_at zero = then_read (name_at zero) (after_at zero never)
-form_at (suc d) = then_read (name_at (suc d)) (after_at (suc d) (form_at d))
+abbrev form_at : ℕ → ℕ → Reader ℕ
+form_at zero n = then_read (name_at zero n) (after_at zero n (λ z. never))
+form_at (suc d) n = then_read (name_at (suc d) n) (after_at (suc d) n (form_at d))
 
 -- 4. What it reads: a name, and what follows
 abbrev Behind : Bool → Type 0
 Behind true = Option (Items Form)
 Behind false = Arguments Num row
 
-abbrev judge_of : Spec Form ℕ → Judge Form ℕ ℕ
-judge_of s = record { spell = s.spell; breaks = λ n. s.breaks; value = λ n. s.value; ends = summed }
+abbrev judge_of : (ℕ → Spec Form ℕ) → Judge Form ℕ ℕ
+judge_of s = record { spell = spell_form; breaks = λ n. (s n).breaks; value = λ n. (s n).value; ends = counted }
 
-abbrev listed : Spec Form ℕ → Spec (Option (Items Form)) ℕ
-listed s = maybe_spec CloseCurly (judge_of s) s.blocks s.start s.any None 0 sum_of 0
+abbrev listed : ℕ → (ℕ → Spec Form ℕ) → Spec (Option (Items Form)) ℕ
+listed n s = maybe_spec CloseCurly (judge_of s) (λ f t. false) fixed any_of_none None n count n
 
 abbrev numbers : Spec (Arguments Num row) (List ℤ)
 numbers = row_spec sorts (λ s z t. false) (λ s. free) (λ s. pos 0) row
 
-abbrev after : ℕ → Spec Form ℕ → (b : Bool) → Spec (Behind b) ℕ
-after d s true = mark_then OpenCurly None (listed s)
-after d s false = mark_then OpenRound None (valued (λ vs. 1) numbers)
+abbrev after : ℕ → ℕ → (ℕ → Spec Form ℕ) → (b : Bool) → Spec (Behind b) ℕ
+after d n s true = mark_then OpenCurly None (listed n s)
+after d n s false = mark_then OpenRound None (valued (λ vs. suc n) numbers)
 
-abbrev at_last : ℕ → (b : Bool) → Spec (Behind b) ℕ
-at_last d true = unread (λ l. mark OpenCurly ∷ spell_maybe CloseCurly spell_form l) (λ l. value_maybe (judge_of (form_spec d)) 0 sum_of l 0) marks_only None
-at_last d false = mark_then OpenRound None (valued (λ vs. 1) numbers)
+abbrev at_last : ℕ → ℕ → (b : Bool) → Spec (Behind b) ℕ
+at_last d n true = unread (λ l. mark OpenCurly ∷ spell_maybe CloseCurly spell_form l) (λ l. value_maybe (judge_of (form_spec d)) n count l n) marks_only None
+at_last d n false = mark_then OpenRound None (valued (λ vs. suc n) numbers)
 
 abbrev inner : ℕ → Option ℕ
 inner zero = None
 inner (suc d) = Some d
 
-abbrev name : ℕ → Spec Bool Bool
-name d = leaf fixed token (λ b. b) (judge d) false
+abbrev name : ℕ → ℕ → Spec Bool Bool
+name d n = leaf fixed token (λ b. b) (judge d n) false
 
-abbrev following : (d : ℕ) → (b : Bool) → Spec (Behind b) ℕ
-following d = behind_name after at_last form_spec d (inner d)
+abbrev following : (d n : ℕ) → (b : Bool) → Spec (Behind b) ℕ
+following d n = behind_name after at_last form_spec d n (inner d)
 
-abbrev pairs : ℕ → Spec ((b : Bool) × Behind b) ℕ
-pairs d = joined (name d) (following d)
+abbrev pairs : ℕ → ℕ → Spec ((b : Bool) × Behind b) ℕ
+pairs d n = joined (name d n) (following d n)
 
 -- 5. The same trees
 forms_of : Items Form → Forms
@@ -190,17 +196,18 @@ unfolding forms_of
 forms_spell (final f) = refl
 forms_spell (also f l) = ap (λ r. spell_form f ++ mark Comma ∷ r) (forms_spell l)
 
-forms_breaks : (l : Items Form) (d n : ℕ) → first (breaks_forms (forms_of l) d) ≡ first (breaks_items (judge_of (form_spec d)) l n)
+forms_breaks : (l : Items Form) (d n : ℕ) → first (breaks_forms (forms_of l) d n) ≡ first (breaks_items (judge_of (form_spec d)) l n)
 unfolding forms_of
-forms_breaks (final f) d n = ap first (sym (append-nil (breaks_form f d)))
+forms_breaks (final f) d n = ap first (sym (append-nil (breaks_form f d n)))
 forms_breaks (also f l) d n =
-    alike_append (breaks_form f d) (breaks_form f d) _ _ refl
-    (alike_behind (length (spell_form f)) _ _ (alike_behind 1 (breaks_forms (forms_of l) d) (breaks_items (judge_of (form_spec d)) l (n + value_form f)) (forms_breaks l d (n + value_form f))))
+    let z = value_form f n in
+    alike_append (breaks_form f d n) (breaks_form f d n) _ _ refl
+    (alike_behind (length (spell_form f)) _ _ (alike_behind 1 (breaks_forms (forms_of l) d z) (breaks_items (judge_of (form_spec d)) l z) (forms_breaks l d z)))
 
-forms_value : (l : Items Form) (d n : ℕ) → value_forms (forms_of l) n ≡ value_items (judge_of (form_spec d)) sum_of l n
+forms_value : (l : Items Form) (d n : ℕ) → value_forms (forms_of l) n ≡ value_items (judge_of (form_spec d)) count l n
 unfolding forms_of
 forms_value (final f) d n = refl
-forms_value (also f l) d n = forms_value l d (n + value_form f)
+forms_value (also f l) d n = forms_value l d (value_form f n)
 
 abbrev onto : (b : Bool) → Behind b → Form
 onto true None = any_of_none
@@ -217,50 +224,50 @@ again (less a b) = refl
 again any_of_none = refl
 again (any_of fs) = ap (λ r. any_of r) (forms_again fs)
 
-view_spell : (d : ℕ) (b : Bool) (y : Behind b) → spell_form (onto b y) ≡ (pairs d).spell (b, y)
-view_spell zero true None = refl
-view_spell (suc d) true None = refl
-view_spell zero true (Some l) = ap (λ r. word (codes "any") ∷ mark OpenCurly ∷ r) (forms_spell l)
-view_spell (suc d) true (Some l) = ap (λ r. word (codes "any") ∷ mark OpenCurly ∷ r) (forms_spell l)
-view_spell zero false p = refl
-view_spell (suc d) false p = refl
+view_spell : (d n : ℕ) (b : Bool) (y : Behind b) → spell_form (onto b y) ≡ (pairs d n).spell (b, y)
+view_spell zero n true None = refl
+view_spell (suc d) n true None = refl
+view_spell zero n true (Some l) = ap (λ r. word (codes "any") ∷ mark OpenCurly ∷ r) (forms_spell l)
+view_spell (suc d) n true (Some l) = ap (λ r. word (codes "any") ∷ mark OpenCurly ∷ r) (forms_spell l)
+view_spell zero n false p = refl
+view_spell (suc d) n false p = refl
 
 fifth : (c : Option Kind) → behind 5 (on c) ≡ behind 1 (behind 1 (behind 1 (behind 1 (behind 1 (on c)))))
 fifth None = refl
 fifth (Some k) = refl
 
-view_breaks : (d : ℕ) (b : Bool) (y : Behind b) → first (breaks_form (onto b y) d) ≡ first ((pairs d).breaks (b, y))
-view_breaks zero true None = refl
-view_breaks (suc d) true None = refl
-view_breaks zero true (Some l) = refl
-view_breaks (suc d) true (Some l) =
-    alike_behind 2 _ _ (forms_breaks l d 0) ∙ ap first (sym (behind_behind 1 1 (breaks_items (judge_of (form_spec d)) l 0)))
-view_breaks zero false p = ap first (fifth (in_order p.0 p.1.0))
-view_breaks (suc d) false p = ap first (fifth (in_order p.0 p.1.0))
+view_breaks : (d n : ℕ) (b : Bool) (y : Behind b) → first (breaks_form (onto b y) d n) ≡ first ((pairs d n).breaks (b, y))
+view_breaks zero n true None = refl
+view_breaks (suc d) n true None = refl
+view_breaks zero n true (Some l) = refl
+view_breaks (suc d) n true (Some l) =
+    alike_behind 2 _ _ (forms_breaks l d n) ∙ ap first (sym (behind_behind 1 1 (breaks_items (judge_of (form_spec d)) l n)))
+view_breaks zero n false p = ap (λ l. first (on (room n) ++ l)) (fifth (in_order p.0 p.1.0))
+view_breaks (suc d) n false p = ap (λ l. first (on (room n) ++ l)) (fifth (in_order p.0 p.1.0))
 
-view_value : (d : ℕ) (b : Bool) (y : Behind b) → value_form (onto b y) ≡ (pairs d).value (b, y)
-view_value zero true None = refl
-view_value (suc d) true None = refl
-view_value zero true (Some l) = forms_value l zero 0
-view_value (suc d) true (Some l) = forms_value l d 0
-view_value zero false p = refl
-view_value (suc d) false p = refl
+view_value : (d n : ℕ) (b : Bool) (y : Behind b) → value_form (onto b y) n ≡ (pairs d n).value (b, y)
+view_value zero n true None = refl
+view_value (suc d) n true None = refl
+view_value zero n true (Some l) = forms_value l zero n
+view_value (suc d) n true (Some l) = forms_value l d n
+view_value zero n false p = refl
+view_value (suc d) n false p = refl
 
-view_blocks : (d : ℕ) (b : Bool) (y : Behind b) (t : Terminal) → false ≡ (pairs d).blocks (b, y) t
-view_blocks zero true y t = refl
-view_blocks (suc d) true y t = refl
-view_blocks zero false y t = refl
-view_blocks (suc d) false y t = refl
+view_blocks : (d n : ℕ) (b : Bool) (y : Behind b) (t : Terminal) → false ≡ (pairs d n).blocks (b, y) t
+view_blocks zero n true y t = refl
+view_blocks (suc d) n true y t = refl
+view_blocks zero n false y t = refl
+view_blocks (suc d) n false y t = refl
 
-view : (d : ℕ) → IsView (pairs d) (form_spec d)
-view d = record {
+view : (d n : ℕ) → IsView (pairs d n) (form_spec d n)
+view d n = record {
   onto = λ p. onto p.0 p.1;
   back = back;
   again = again;
-  spell = λ p. view_spell d p.0 p.1;
-  breaks = λ p. view_breaks d p.0 p.1;
-  value = λ p. view_value d p.0 p.1;
-  blocks = λ p t. view_blocks d p.0 p.1 t;
+  spell = λ p. view_spell d n p.0 p.1;
+  breaks = λ p. view_breaks d n p.0 p.1;
+  value = λ p. view_value d n p.0 p.1;
+  blocks = λ p t. view_blocks d n p.0 p.1 t;
   start = refl;
 }
 
@@ -274,17 +281,17 @@ name_back t w true c e f same = (true, the_word (codes "any") t e, cc)
 name_back t w false true e f same = (false, the_word (codes "less") t f, cc)
 name_back t w false false e f same = cc
 
-judge_kinds : (d : ℕ) (b : Bool) (kind : Kind) → judge d b ≡ Some kind → is_condition kind ≡ true
-judge_kinds zero true kind e = let same : kinds.Limit limits.Nesting ≡ kind = cc in ap is_condition (sym same)
-judge_kinds (suc d) true kind e = cc
-judge_kinds d false kind e = cc
+judge_kinds : (d n : ℕ) (b : Bool) (kind : Kind) → judge d n b ≡ Some kind → is_condition kind ≡ true
+judge_kinds zero n true kind e = kind_when true (kinds.Limit limits.Nesting) refl kind e
+judge_kinds (suc d) n true kind e = cc
+judge_kinds d n false kind e = kind_when (leb 3 n) (kinds.Limit limits.Constraints) refl kind e
 
-name_law : (d : ℕ) → Lawful (name d) (name_at d)
-name_law d = Lawful-one fixed token (λ b. b) which_form (judge d) false (record {
+name_law : (d n : ℕ) → Lawful (name d n) (name_at d n)
+name_law d n = Lawful-one fixed token (λ b. b) which_form (judge d n) false (record {
   forth = forth;
   back = λ t w e. name_back t w (is_the_word (codes "any") t) (is_the_word (codes "less") t) refl refl e;
   is_site = ((refl, refl), (word (codes "any"), refl, refl));
-  kinds = judge_kinds d;
+  kinds = judge_kinds d n;
 })
 
 -- 7. What follows a name is lawful: a row of numbers, or a list of forms
@@ -305,10 +312,10 @@ numbers_law = row_law sorts (λ s z t. false) (λ s. free) (λ s. pos 0)
     })
     (λ s vs. number_at (λ z. None)) (λ s vs. Lawful-number (λ z. None) (λ z kind e. cc)) row
 
-less_law : Lawful {V = ℕ} (mark_then OpenRound None (valued (λ vs. 1) numbers)) (then_read (mark_at marks_only OpenRound None) (λ u. then_read (row_at behind_num (λ s vs. number_at (λ z. None)) row) (λ vs. ret 1)))
-less_law =
-    let law : Lawful {V = ℕ} (valued (λ vs. 1) numbers) (then_read (row_at behind_num (λ s vs. number_at (λ z. None)) row) (λ vs. ret 1)) = Lawful-valued (λ vs. 1) numbers (row_at behind_num (λ s vs. number_at (λ z. None)) row) numbers_law in
-    Lawful-mark_then OpenRound None (λ kind e. cc) (valued (λ vs. 1) numbers) _ law.sound (λ kept. law)
+less_law : (n : ℕ) → Lawful {V = ℕ} (mark_then OpenRound None (valued (λ vs. suc n) numbers)) (then_read (mark_at marks_only OpenRound None) (λ u. then_read (row_at behind_num (λ s vs. number_at (λ z. None)) row) (λ vs. ret (suc n))))
+less_law n =
+    let law : Lawful {V = ℕ} (valued (λ vs. suc n) numbers) (then_read (row_at behind_num (λ s vs. number_at (λ z. None)) row) (λ vs. ret (suc n))) = Lawful-valued (λ vs. suc n) numbers (row_at behind_num (λ s vs. number_at (λ z. None)) row) numbers_law in
+    Lawful-mark_then OpenRound None (λ kind e. cc) (valued (λ vs. suc n) numbers) _ law.sound (λ kept. law)
 
 form_solid : (f : Form) → spell_form f ≡ [] → ⊥
 form_solid (less a b) e = cc
@@ -320,49 +327,49 @@ form_not_shut (less a b) t q e = let same : word (codes "less") ≡ t = cc in ap
 form_not_shut any_of_none t q e = let same : word (codes "any") ≡ t = cc in ap (is_the_mark CloseCurly) (sym same)
 form_not_shut (any_of fs) t q e = let same : word (codes "any") ≡ t = cc in ap (is_the_mark CloseCurly) (sym same)
 
-any_law : (d : ℕ) (read : Reader ℕ) → Lawful (form_spec d) read → Lawful (mark_then OpenCurly None (listed (form_spec d))) (then_read (mark_at marks_only OpenCurly None) (λ u. maybe_at CloseCurly summed None 0 sum_of (λ n. read) 0))
-any_law d read law =
-    let list = Lawful-maybe CloseCurly (judge_of (form_spec d)) (λ f t. false) fixed any_of_none None 0 sum_of
-    (record {
-      other = refl;
-      solid = form_solid;
-      marks = λ f t e. refl;
-      no_comma = λ f. refl;
-      no_shut = λ f. refl;
-      comma_kinds = λ n v kind e. cc;
-      close_kinds = λ n v kind e. cc;
-    })
-    form_not_shut (λ kind e. cc) 0 (λ n. read) (λ n. law) in
-    Lawful-mark_then OpenCurly None (λ kind e. cc) (listed (form_spec d)) (maybe_at CloseCurly summed None 0 sum_of (λ n. read) 0) list.sound (λ kept. list)
+any_law : (d n : ℕ) (read : ℕ → Reader ℕ) → ((z : ℕ) → Lawful (form_spec d z) (read z)) → Lawful (mark_then OpenCurly None (listed n (form_spec d))) (then_read (mark_at marks_only OpenCurly None) (λ u. maybe_at CloseCurly counted None n count read n))
+any_law d n read law =
+    let list = Lawful-maybe CloseCurly (judge_of (form_spec d)) (λ f t. false) fixed any_of_none None n count
+            (record {
+              other = refl;
+              solid = form_solid;
+              marks = λ f t e. refl;
+              no_comma = λ f. refl;
+              no_shut = λ f. refl;
+              comma_kinds = λ n v kind e. cc;
+              close_kinds = λ n v kind e. cc;
+            })
+            form_not_shut (λ kind e. cc) n read law in
+    Lawful-mark_then OpenCurly None (λ kind e. cc) (listed n (form_spec d)) (maybe_at CloseCurly counted None n count read n) list.sound (λ kept. list)
 
-deeper : (d e : ℕ) → inner d ≡ Some e → Lawful (form_spec e) (form_at e) → (b : Bool) → Lawful (after d (form_spec e) b) (after_at d (form_at e) b)
-deeper d e same law true = any_law e (form_at e) law
-deeper d e same law false = less_law
+deeper : (d e n : ℕ) → inner d ≡ Some e → ((z : ℕ) → Lawful (form_spec e z) (form_at e z)) → (b : Bool) → Lawful (after d n (form_spec e) b) (after_at d n (form_at e) b)
+deeper d e n same law true = any_law e n (form_at e) law
+deeper d e n same law false = less_law n
 
-deepest : (d : ℕ) → inner d ≡ None → (b : Bool) → Sound (at_last d b)
-deepest d same true = Sound-unread _ _ marks_only None
-deepest d same false = less_law.sound
+deepest : (d n : ℕ) → inner d ≡ None → (b : Bool) → Sound (at_last d n b)
+deepest d n same true = Sound-unread _ _ marks_only None
+deepest d n same false = (less_law n).sound
 
-deepest_reads : (d : ℕ) → inner d ≡ None → (b : Bool) → (name d).breaks b ≡ [] → Lawful (at_last d b) (after_at d never b)
-deepest_reads zero same true kept = absurd cc
-deepest_reads (suc d) same true kept = absurd cc
-deepest_reads d same false kept = less_law
+deepest_reads : (d n : ℕ) → inner d ≡ None → (b : Bool) → (name d n).breaks b ≡ [] → Lawful (at_last d n b) (after_at d n (λ z. never) b)
+deepest_reads zero n same true kept = absurd cc
+deepest_reads (suc d) n same true kept = absurd cc
+deepest_reads d n same false kept = less_law n
 
 smaller : (d e : ℕ) → inner d ≡ Some e → e < d
 smaller zero e same = cc
 smaller (suc d) e same = let x : d ≡ e = cc in omega arith
 
-turn : (d : ℕ) (ts : List Terminal) → then_read (name_at d) (after_at d (within form_at (inner d))) ts ≡ form_at d ts
-turn zero ts = refl
-turn (suc d) ts = refl
+turn : (d n : ℕ) (ts : List Terminal) → then_read (name_at d n) (after_at d n (within form_at (inner d))) ts ≡ form_at d n ts
+turn zero n ts = refl
+turn (suc d) n ts = refl
 
 -- 8. So forms are read to any depth
-form_law : (d : ℕ) → Lawful (form_spec d) (form_at d)
+form_law : (d n : ℕ) → Lawful (form_spec d n) (form_at d n)
 form_law = nest_law inner (λ d. d) name after at_last form_spec name_at after_at form_at (record {
   turn = turn;
   smaller = smaller;
   names = name_law;
-  joins = λ d. join_leaf fixed token (λ b. b) (judge d) false (following d);
+  joins = λ d n. join_leaf fixed token (λ b. b) (judge d n) false (following d n);
   deeper = deeper;
   deepest = deepest;
   deepest_reads = deepest_reads;
@@ -371,7 +378,7 @@ form_law = nest_law inner (λ d. d) name after at_last form_spec name_at after_a
 
 -- 9. And what is answered computes
 abbrev answer : ℕ → List Terminal → Result ℕ Fault
-answer d ts = whole None (form_at d) ts
+answer d ts = whole None (form_at d 0) ts
 
 abbrev less_than : ℕ → ℕ → List Terminal
 less_than a b = spell_form (less (pos a) (pos b))
@@ -391,3 +398,7 @@ two_inside = refl
 too_deep : answer 1 (spell_form (any_of (only (any_of (only (less (pos 2) (pos 1))))))) ≡ Err (record { left = 10; kind = kinds.Limit limits.Nesting })
 unfolding loop mark_at end_at number_at items_at maybe_at
 too_deep = refl
+
+too_many : answer 1 (spell_form (any_of (and_more (less (pos 1) (pos 2)) (and_more (less (pos 1) (pos 2)) (and_more (less (pos 1) (pos 2)) (only (less (pos 1) (pos 2)))))))) ≡ Err (record { left = 7; kind = kinds.Limit limits.Constraints })
+unfolding loop mark_at end_at number_at items_at maybe_at
+too_many = refl

@@ -15,43 +15,43 @@ Sound-unread spell value start some = record { kinds = λ x b e. cc; within = λ
 
 -- A form is a name A and what follows it: `after`, of the forms of the inner depth. At a depth that has none inside
 -- it is `last`: there the name of each form that would hold others is to break a condition, and they are never read.
-abbrev pub behind_name : {D A W X : Type 0} {Y : A → Type 0} → (D → Spec X W → (a : A) → Spec (Y a) W) → (D → (a : A) → Spec (Y a) W) → (D → Spec X W) → D → Option D → (a : A) → Spec (Y a) W
-behind_name after last spec d None a = last d a
-behind_name after last spec d (Some e) a = after d (spec e) a
+abbrev pub behind_name : {D S A W X : Type 0} {Y : A → Type 0} → (D → S → (S → Spec X W) → (a : A) → Spec (Y a) W) → (D → S → (a : A) → Spec (Y a) W) → (D → S → Spec X W) → D → S → Option D → (a : A) → Spec (Y a) W
+behind_name after last spec d s None a = last d s a
+behind_name after last spec d s (Some e) a = after d s (spec e) a
 
--- D are the depths: `inner` is the depth inside of one, where there is one.
-module _ {D A V W X : Type 0} {Y : A → Type 0} (inner : D → Option D) (size : D → ℕ) (name : D → Spec A V) (after : D → Spec X W → (a : A) → Spec (Y a) W) (last : D → (a : A) → Spec (Y a) W) (spec : D → Spec X W) where
-  module _ (name_at : D → Reader V) (after_at : (d : D) → Reader W → V → Reader W) (read : D → Reader W) where
+-- D are the depths: `inner` is the depth inside of one, where there is one. S is the state before a form.
+module _ {D S A V W X : Type 0} {Y : A → Type 0} (inner : D → Option D) (size : D → ℕ) (name : D → S → Spec A V) (after : D → S → (S → Spec X W) → (a : A) → Spec (Y a) W) (last : D → S → (a : A) → Spec (Y a) W) (spec : D → S → Spec X W) where
+  module _ (name_at : D → S → Reader V) (after_at : D → S → (S → Reader W) → V → Reader W) (read : D → S → Reader W) where
     -- What nested forms have to show: they are read as a name and what follows; each depth inside is smaller;
     -- what follows is lawful where the forms inside are, and at a depth with none inside where the name breaks nothing.
     pub record IsNested : Type 0 where
-      pub turn : (d : D) (ts : List Terminal) → then_read (name_at d) (after_at d (within read (inner d))) ts ≡ read d ts
+      pub turn : (d : D) (s : S) (ts : List Terminal) → then_read (name_at d s) (after_at d s (within read (inner d))) ts ≡ read d s ts
       pub smaller : (d e : D) → inner d ≡ Some e → size e < size d
-      pub names : (d : D) → Lawful (name d) (name_at d)
-      pub joins : (d : D) → Join (name d) (behind_name after last spec d (inner d))
-      pub deeper : (d e : D) → inner d ≡ Some e → Lawful (spec e) (read e) → (a : A) → Lawful (after d (spec e) a) (after_at d (read e) ((name d).value a))
-      pub deepest : (d : D) → inner d ≡ None → (a : A) → Sound (last d a)
-      pub deepest_reads : (d : D) → inner d ≡ None → (a : A) → (name d).breaks a ≡ [] → Lawful (last d a) (after_at d never ((name d).value a))
-      pub view : (d : D) → IsView (joined (name d) (behind_name after last spec d (inner d))) (spec d)
+      pub names : (d : D) (s : S) → Lawful (name d s) (name_at d s)
+      pub joins : (d : D) (s : S) → Join (name d s) (behind_name after last spec d s (inner d))
+      pub deeper : (d e : D) (s : S) → inner d ≡ Some e → ((z : S) → Lawful (spec e z) (read e z)) → (a : A) → Lawful (after d s (spec e) a) (after_at d s (read e) ((name d s).value a))
+      pub deepest : (d : D) (s : S) → inner d ≡ None → (a : A) → Sound (last d s a)
+      pub deepest_reads : (d : D) (s : S) → inner d ≡ None → (a : A) → (name d s).breaks a ≡ [] → Lawful (last d s a) (after_at d s (λ z. never) ((name d s).value a))
+      pub view : (d : D) (s : S) → IsView (joined (name d s) (behind_name after last spec d s (inner d))) (spec d s)
 
     module _ (is : IsNested) where
-      at_depth : (d : D) (o : Option D) → inner d ≡ o → ((e : D) → o ≡ Some e → Lawful (spec e) (read e)) → Lawful (joined (name d) (behind_name after last spec d o)) (then_read (name_at d) (after_at d (within read o)))
-      at_depth d None e laws =
-          Lawful-then (name d) (last d) (subst (λ o. Join (name d) (behind_name after last spec d o)) e (is.joins d)) (name_at d) (after_at d never) (is.names d)
-          (is.deepest d e)
-          (is.deepest_reads d e)
-      at_depth d (Some i) e laws =
-          Lawful-then (name d) (after d (spec i)) (subst (λ o. Join (name d) (behind_name after last spec d o)) e (is.joins d)) (name_at d) (after_at d (read i)) (is.names d)
-          (λ a. (is.deeper d i e (laws i refl) a).sound)
-          (λ a kept. is.deeper d i e (laws i refl) a)
+      at_depth : (d : D) (s : S) (o : Option D) → inner d ≡ o → ((e : D) → o ≡ Some e → (z : S) → Lawful (spec e z) (read e z)) → Lawful (joined (name d s) (behind_name after last spec d s o)) (then_read (name_at d s) (after_at d s (within read o)))
+      at_depth d s None e laws =
+          Lawful-then (name d s) (last d s) (subst (λ o. Join (name d s) (behind_name after last spec d s o)) e (is.joins d s)) (name_at d s) (after_at d s (λ z. never)) (is.names d s)
+              (is.deepest d s e)
+              (is.deepest_reads d s e)
+      at_depth d s (Some i) e laws =
+          Lawful-then (name d s) (after d s (spec i)) (subst (λ o. Join (name d s) (behind_name after last spec d s o)) e (is.joins d s)) (name_at d s) (after_at d s (read i)) (is.names d s)
+              (λ a. (is.deeper d i s e (laws i refl) a).sound)
+              (λ a kept. is.deeper d i s e (laws i refl) a)
 
-      up_to : (n : ℕ) (d : D) → size d < n → Lawful (spec d) (read d)
-      up_to zero d small = absurd (omega arith)
-      up_to (suc n) d small =
-          Lawful-same (spec d) (then_read (name_at d) (after_at d (within read (inner d)))) (read d) (is.turn d)
-          (Lawful-view (joined (name d) (behind_name after last spec d (inner d))) (spec d) (is.view d) (then_read (name_at d) (after_at d (within read (inner d))))
-          (at_depth d (inner d) refl (λ e f. up_to n e (let fewer = is.smaller d e f in omega arith))))
+      up_to : (n : ℕ) (d : D) (s : S) → size d < n → Lawful (spec d s) (read d s)
+      up_to zero d s small = absurd (omega arith)
+      up_to (suc n) d s small =
+          Lawful-same (spec d s) (then_read (name_at d s) (after_at d s (within read (inner d)))) (read d s) (is.turn d s)
+          (Lawful-view (joined (name d s) (behind_name after last spec d s (inner d))) (spec d s) (is.view d s) (then_read (name_at d s) (after_at d s (within read (inner d))))
+              (at_depth d s (inner d) refl (λ e f z. up_to n e z (let fewer = is.smaller d e f in omega arith))))
 
       -- so the forms of each depth are lawful
-      pub nest_law : (d : D) → Lawful (spec d) (read d)
-      nest_law d = up_to (suc (size d)) d (omega arith)
+      pub nest_law : (d : D) (s : S) → Lawful (spec d s) (read d s)
+      nest_law d s = up_to (suc (size d)) d s (omega arith)

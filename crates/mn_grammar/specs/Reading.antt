@@ -126,9 +126,9 @@ end_at shut comma close s v = one marks_only (which_end shut s v) (judge_end com
 abbrev pub never : {V : Type 0} → Reader V
 never ts = Err (fault_at ts Syntax)
 
-abbrev pub within : {D V : Type 0} → (D → Reader V) → Option D → Reader V
-within read None = never
-within read (Some d) = read d
+abbrev pub within : {D S V : Type 0} → (D → S → Reader V) → Option D → S → Reader V
+within read None s = never
+within read (Some d) s = read d s
 
 -- the whole list
 abbrev pub finished : {V : Type 0} → Answer V → Result V Fault
