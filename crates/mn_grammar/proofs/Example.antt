@@ -1,10 +1,10 @@
 -- A small language, to show how a reader is proved exact: `MINION`, names, `**EOF**`. Each name stands once, and there
 -- are two at most.
-use Rattle.std.proofs.Common.{◌≡◌, ◌⊎◌, ℕ, ◌≤◌, Bool, true, false, cond, leb, ◌||◌, List, [], ◌∷◌, ◌++◌, length, codes, Option, Some, None, is_some, Ok, Err, Result, refl, sym, ap, ◌∙◌, inl, inr, bytes_eq, if◌then◌else◌, arith}
+use Rattle.std.proofs.Common.{◌≡◌, ◌⊎◌, ℕ, Bool, true, false, cond, leb, ◌||◌, List, [], ◌∷◌, ◌++◌, length, codes, Option, Some, None, is_some, Ok, Err, Result, refl, ap, ◌∙◌, inl, inr, bytes_eq, if◌then◌else◌, arith}
 use Rattle.mn_lexer.specs.Terminals.{Terminal, word, number, head, mark}
 use Rattle.mn_lexer.specs.declared.LexFault.{LexFault}
 use Rattle.mn_grammar.specs.Tokens.{Name, is_name, name_of}
-use Rattle.mn_grammar.specs.Kinds.{rank, is_condition}
+use Rattle.mn_grammar.specs.Kinds.{is_condition}
 use Rattle.mn_grammar.specs.Places.{Break, when, on, behind}
 use Rattle.mn_grammar.specs.Reading.{Reader, mixed, fixed, Turn, goes_on, is_done, one, ret, then_read, loop, word_at, whole}
 use Rattle.mn_grammar.specs.Lawful.{Spec, first, Lawful}

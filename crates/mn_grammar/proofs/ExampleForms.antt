@@ -1,7 +1,7 @@
 -- Another small language: `less(1,2)` and `any{..}` of any number of forms, one within another, with three `less` in
 -- all. It shows a row of arguments with a condition on the values so far, a list that may be empty, nesting to a depth,
 -- and a state that goes through all of it.
-use Rattle.std.proofs.Common.{◌≡◌, ℕ, ℤ, zero, suc, ◌+◌, ◌<◌, Bool, true, false, cond, List, [], ◌∷◌, ◌++◌, length, codes, pos, int_lt, leb, Option, Some, None, Ok, Err, Result, refl, sym, ap, ◌∙◌, if◌then◌else◌, arith, append-nil}
+use Rattle.std.proofs.Common.{◌≡◌, ℕ, ℤ, zero, suc, ◌<◌, Bool, true, false, cond, List, [], ◌∷◌, ◌++◌, length, codes, pos, int_lt, leb, Option, Some, None, Ok, Err, Result, refl, sym, ap, ◌∙◌, if◌then◌else◌, arith, append-nil}
 use Rattle.mn_lexer.specs.Terminals.{Terminal, word, number, mark}
 use Rattle.mn_lexer.specs.declared.marks.Mark.TheVariants.{OpenCurly, CloseCurly, OpenRound, CloseRound, Comma}
 use Rattle.mn_grammar.specs.Tokens.{is_the_mark, is_the_word}
@@ -330,16 +330,16 @@ form_not_shut (any_of fs) t q e = let same : word (codes "any") ≡ t = cc in ap
 any_law : (d n : ℕ) (read : ℕ → Reader ℕ) → ((z : ℕ) → Lawful (form_spec d z) (read z)) → Lawful (mark_then OpenCurly None (listed n (form_spec d))) (then_read (mark_at marks_only OpenCurly None) (λ u. maybe_at CloseCurly counted None n count read n))
 any_law d n read law =
     let list = Lawful-maybe CloseCurly (judge_of (form_spec d)) (λ f t. false) fixed any_of_none None n count
-            (record {
-              other = refl;
-              solid = form_solid;
-              marks = λ f t e. refl;
-              no_comma = λ f. refl;
-              no_shut = λ f. refl;
-              comma_kinds = λ n v kind e. cc;
-              close_kinds = λ n v kind e. cc;
-            })
-            form_not_shut (λ kind e. cc) n read law in
+    (record {
+      other = refl;
+      solid = form_solid;
+      marks = λ f t e. refl;
+      no_comma = λ f. refl;
+      no_shut = λ f. refl;
+      comma_kinds = λ n v kind e. cc;
+      close_kinds = λ n v kind e. cc;
+    })
+    form_not_shut (λ kind e. cc) n read law in
     Lawful-mark_then OpenCurly None (λ kind e. cc) (listed n (form_spec d)) (maybe_at CloseCurly counted None n count read n) list.sound (λ kept. list)
 
 deeper : (d e n : ℕ) → inner d ≡ Some e → ((z : ℕ) → Lawful (form_spec e z) (form_at e z)) → (b : Bool) → Lawful (after d n (form_spec e) b) (after_at d n (form_at e) b)

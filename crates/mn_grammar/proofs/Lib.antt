@@ -12,6 +12,7 @@ pub mod Steps
 pub mod Tables
 pub mod Words
 pub mod Nested
+pub mod Stops
 pub mod Exact
 pub mod Example
 pub mod ExampleForms

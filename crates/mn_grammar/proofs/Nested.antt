@@ -38,19 +38,19 @@ module _ {D S A V W X : Type 0} {Y : A → Type 0} (inner : D → Option D) (siz
       at_depth : (d : D) (s : S) (o : Option D) → inner d ≡ o → ((e : D) → o ≡ Some e → (z : S) → Lawful (spec e z) (read e z)) → Lawful (joined (name d s) (behind_name after last spec d s o)) (then_read (name_at d s) (after_at d s (within read o)))
       at_depth d s None e laws =
           Lawful-then (name d s) (last d s) (subst (λ o. Join (name d s) (behind_name after last spec d s o)) e (is.joins d s)) (name_at d s) (after_at d s (λ z. never)) (is.names d s)
-              (is.deepest d s e)
-              (is.deepest_reads d s e)
+          (is.deepest d s e)
+          (is.deepest_reads d s e)
       at_depth d s (Some i) e laws =
           Lawful-then (name d s) (after d s (spec i)) (subst (λ o. Join (name d s) (behind_name after last spec d s o)) e (is.joins d s)) (name_at d s) (after_at d s (read i)) (is.names d s)
-              (λ a. (is.deeper d i s e (laws i refl) a).sound)
-              (λ a kept. is.deeper d i s e (laws i refl) a)
+          (λ a. (is.deeper d i s e (laws i refl) a).sound)
+          (λ a kept. is.deeper d i s e (laws i refl) a)
 
       up_to : (n : ℕ) (d : D) (s : S) → size d < n → Lawful (spec d s) (read d s)
       up_to zero d s small = absurd (omega arith)
       up_to (suc n) d s small =
           Lawful-same (spec d s) (then_read (name_at d s) (after_at d s (within read (inner d)))) (read d s) (is.turn d s)
           (Lawful-view (joined (name d s) (behind_name after last spec d s (inner d))) (spec d s) (is.view d s) (then_read (name_at d s) (after_at d s (within read (inner d))))
-              (at_depth d s (inner d) refl (λ e f z. up_to n e z (let fewer = is.smaller d e f in omega arith))))
+          (at_depth d s (inner d) refl (λ e f z. up_to n e z (let fewer = is.smaller d e f in omega arith))))
 
       -- so the forms of each depth are lawful
       pub nest_law : (d : D) (s : S) → Lawful (spec d s) (read d s)
