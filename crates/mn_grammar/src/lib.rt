@@ -119,3 +119,6 @@ pub fn one_verdict<X, V>()
     ensures some { SomeVerdict X V }
     ensures one { OneVerdict X V }
 {}
+
+#[cfg(test)]
+mod tests;
