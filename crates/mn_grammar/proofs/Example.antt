@@ -132,8 +132,7 @@ a_turn seen = valued (turn_of seen) (leaf mixed token value (judge seen) (inr tt
 step_law : (seen : List (List ℕ)) → Lawful (a_turn seen) (step seen)
 step_law seen = Lawful-valued (turn_of seen) (leaf mixed token value (judge seen) (inr tt)) (one mixed name_or_end (judge seen))
     (Lawful-one mixed token value name_or_end (judge seen) (inr tt) (record {
-      forth = forth;
-      back = back;
+      class = record { forth = forth; back = back };
       is_site = ((head (codes "**EOF**"), refl, refl), inl names_wanted);
       kinds = judge_kinds seen;
     }))

@@ -288,8 +288,10 @@ judge_kinds d n false kind e = kind_when (leb 3 n) (kinds.Limit limits.Constrain
 
 name_law : (d n : ℕ) → Lawful (name d n) (name_at d n)
 name_law d n = Lawful-one fixed token (λ b. b) which_form (judge d n) false (record {
-  forth = forth;
-  back = λ t w e. name_back t w (is_the_word (codes "any") t) (is_the_word (codes "less") t) refl refl e;
+  class = record {
+    forth = forth;
+    back = λ t w e. name_back t w (is_the_word (codes "any") t) (is_the_word (codes "less") t) refl refl e;
+  };
   is_site = ((refl, refl), (word (codes "any"), refl, refl));
   kinds = judge_kinds d n;
 })

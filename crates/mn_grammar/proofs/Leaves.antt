@@ -37,10 +37,14 @@ first_on : (c : Option Kind) (b : Break) → first (on c) ≡ Some b → (b.0 �
 first_on None b e = absurd cc
 first_on (Some k) b e = let same : ◌≡◌ {A = Break} (0, k) b = cc in (sym (ap (λ (x : Break). x.0) same), ap (λ (x : Break). Some x.1) same)
 
--- what a class of tokens has to show
-pub record IsLeaf {A W : Type 0} (site : Site) (token : A → Terminal) (value : A → W) (classify : Terminal → Option W) (judge : W → Option Kind) : Type 0 where
+-- A class of tokens: each is told, by its value, and nothing else is.
+pub record IsClass {A W : Type 0} (token : A → Terminal) (value : A → W) (classify : Terminal → Option W) : Type 0 where
   pub forth : (a : A) → classify (token a) ≡ Some (value a)
   pub back : (t : Terminal) (w : W) → classify t ≡ Some w → (a : A) × (t ≡ token a) × (value a ≡ w)
+
+-- what a class of tokens has to show: its site, and that its conditions have kinds of conditions
+pub record IsLeaf {A W : Type 0} (site : Site) (token : A → Terminal) (value : A → W) (classify : Terminal → Option W) (judge : W → Option Kind) : Type 0 where
+  pub class : IsClass token value classify
   pub is_site : IsSite site (of_class classify)
   pub kinds : (w : W) (kind : Kind) → judge w ≡ Some kind → is_condition kind ≡ true
 
@@ -57,7 +61,7 @@ module _ {A W : Type 0} (site : Site) (token : A → Terminal) (value : A → W)
 
   leaf_complete : Complete s (one site classify judge)
   leaf_complete a rest lacks =
-      ap (λ o. classed site judge o (token a ∷ rest) rest) (is.forth a)
+      ap (λ o. classed site judge o (token a ∷ rest) rest) (is.class.forth a)
       ∙ judged_on (judge (value a)) (value a) (token a) rest
 
   refuses : (us : List Terminal) → Lacks (of_class classify) us → one site classify judge us ≡ Err (refused site us)
@@ -82,11 +86,11 @@ module _ {A W : Type 0} (site : Site) (token : A → Terminal) (value : A → W)
     where
       wants_of : (t : Terminal) (o : Option W) → classify t ≡ o → is_some o ≡ true → (a : A) × (q : List Terminal) × (token a ∷ [] ≡ t ∷ q)
       wants_of t None e some_is = cc
-      wants_of t (Some w) e some_is = let r = is.back t w e in (r.0, [], ap (λ x. x ∷ []) (sym r.1))
+      wants_of t (Some w) e some_is = let r = is.class.back t w e in (r.0, [], ap (λ x. x ∷ []) (sym r.1))
 
   leaf_judged : (t : Terminal) (ts : List Terminal) (w : W) → classify t ≡ Some w → (c : Option Kind) → judge w ≡ c → Said s (one site classify judge) (t ∷ ts) (judged c w (t ∷ ts) ts)
   leaf_judged t ts w e None kept =
-      let r = is.back t w e in record {
+      let r = is.class.back t w e in record {
         tree = r.0;
         parts = ap (λ x. x ∷ ts) r.1;
         kept = ap on (ap judge r.2 ∙ kept);
@@ -94,7 +98,7 @@ module _ {A W : Type 0} (site : Site) (token : A → Terminal) (value : A → W)
         ends = Lacks-none ts;
       }
   leaf_judged t ts w e (Some k) broken =
-      let r = is.back t w e in inr (record {
+      let r = is.class.back t w e in inr (record {
         passed = [];
         token = t;
         others = ts;

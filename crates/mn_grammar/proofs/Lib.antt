@@ -11,6 +11,7 @@ pub mod Items
 pub mod Steps
 pub mod Tables
 pub mod Words
+pub mod Classes
 pub mod Nested
 pub mod Stops
 pub mod Exact

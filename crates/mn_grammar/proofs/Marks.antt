@@ -9,7 +9,7 @@ use Rattle.mn_grammar.specs.Tokens.{is_mark, mark_number, is_the_mark}
 use Rattle.mn_grammar.specs.Kinds.{is_condition}
 use Rattle.mn_grammar.specs.Reading.{Site, marks_only, Turn, goes_on, is_done, which_mark, mark_at, which_end, judge_end, end_at}
 use Rattle.mn_grammar.specs.Lawful.{Spec, OnlyMarks, Lawful}
-use Rattle.mn_grammar.proofs.Leaves.{leaf, Lawful-one}
+use Rattle.mn_grammar.proofs.Leaves.{leaf, IsClass, Lawful-one}
 use Rattle.mn_grammar.specs.declared.Kind.{Kind}
 
 of_number : (m : Mark) → get_or all_marks (mark_number m) Bang ≡ m
@@ -59,12 +59,17 @@ cond_some : {W : Type 0} (w v : W) (b : Bool) → cond b (Some w) None ≡ Some 
 cond_some w v true e = (refl, cc)
 cond_some w v false e = cc
 
+pub mark_class : (m : Mark) → IsClass (λ u. mark m) (λ u. u) (which_mark m)
+mark_class m = record {
+  forth = λ u. ap (λ b. cond b (Some tt) None) (is_itself m);
+  back = λ t w e. (tt, the_mark m t (cond_some tt w (is_the_mark m t) e).0, (cond_some tt w (is_the_mark m t) e).1);
+}
+
 -- A mark alone is a leaf. Where more than marks is wanted at its place, its site is that of the choice it stands in.
 pub Lawful-mark : (m : Mark) (c : Option Kind) → ((kind : Kind) → c ≡ Some kind → is_condition kind ≡ true) → Lawful (a_mark marks_only m c) (mark_at marks_only m c)
 unfolding mark_at
 Lawful-mark m c kinds = Lawful-one marks_only (λ u. mark m) (λ u. u) (which_mark m) (λ u. c) tt (record {
-  forth = λ u. ap (λ b. cond b (Some tt) None) (is_itself m);
-  back = λ t w e. (tt, the_mark m t (cond_some tt w (is_the_mark m t) e).0, (cond_some tt w (is_the_mark m t) e).1);
+  class = mark_class m;
   is_site = λ t e. some_mark tt (is_the_mark m t) ∙ no_other m t e;
   kinds = λ w kind e. kinds kind e;
 })
@@ -107,8 +112,10 @@ end_site shut s r t e = no_end s r (is_the_mark Comma t) (is_the_mark shut t) (n
 pub Lawful-end : {S R : Type 0} (shut : Mark) (comma close : Option Kind) (s : S) (r : R) → is_the_mark Comma (mark shut) ≡ false → ((kind : Kind) → comma ≡ Some kind → is_condition kind ≡ true) → ((kind : Kind) → close ≡ Some kind → is_condition kind ≡ true) → Lawful (an_end shut comma close s r) (end_at shut comma close s r)
 unfolding end_at
 Lawful-end shut comma close s r other a b = Lawful-one marks_only (end_token shut) (end_value s r) (which_end shut s r) (judge_end comma close) false (record {
-  forth = end_forth shut s r other;
-  back = λ t w e. end_back shut s r t w (is_the_mark Comma t) (is_the_mark shut t) refl refl e;
+  class = record {
+    forth = end_forth shut s r other;
+    back = λ t w e. end_back shut s r t w (is_the_mark Comma t) (is_the_mark shut t) refl refl e;
+  };
   is_site = end_site shut s r;
   kinds = end_kinds comma close a b;
 })

@@ -38,6 +38,16 @@ IsSite-wider free g f fits is = (λ t e. or_from (g t) (f t) (fits t e) (is.0 t 
 IsSite-wider fixed g f fits is = ((or_from _ _ fits.0 is.0.0, or_from _ _ fits.1 is.0.1), (is.1.0, is.1.1, or_right (g is.1.0) (f is.1.0) is.1.2))
 IsSite-wider mixed g f fits is = ((is.0.0, is.0.1, or_right (g is.0.0) (f is.0.0) is.0.2), open_wider f g is.1)
 
+or_swap : (x y : Bool) → (x || y) ≡ (y || x)
+or_swap true true = refl
+or_swap true false = refl
+or_swap false true = refl
+or_swap false false = refl
+
+-- the same, with the wider tokens behind
+pub IsSite-wider_back : (s : Site) (f g : Terminal → Bool) → IsSite s f → Fits s g → IsSite s (λ t. f t || g t)
+IsSite-wider_back s f g is fits = subst (IsSite s) (λ i t. or_swap (g t) (f t) i) (IsSite-wider s g f fits is)
+
 pub head_no_mark : (t : Terminal) → is_head t ≡ true → is_mark t ≡ false
 head_no_mark (head bs) e = refl
 head_no_mark (word bs) e = cc

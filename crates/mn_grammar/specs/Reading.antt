@@ -1,11 +1,12 @@
 -- Readers of token lists, and the parts that they are made of. No public promise speaks of them: they stand
 -- between the definitions of a language and the code that reads it.
-use Rattle.std.specs.Prelude.{ℕ, ℤ, zero, suc, Bool, not, ◌&&◌, List, [], ◌∷◌, length, Option, Some, None, Result, Ok, Err, if◌then◌else◌}
+use Rattle.std.specs.Prelude.{ℕ, ℤ, zero, suc, Bool, not, ◌&&◌, List, [], ◌∷◌, length, Option, Some, None, Result, Ok, Err, if◌then◌else◌, ◌⊎◌, find}
+use Rattle.std.proofs.Common.{inl, inr}
 use Rattle.mn_lexer.specs.Terminals.{Terminal}
 use Rattle.mn_lexer.specs.declared.LexFault.{LexFault}
 use Rattle.mn_lexer.specs.declared.marks.Mark.{Mark}
 use Rattle.mn_lexer.specs.declared.marks.Mark.TheVariants.{Comma}
-use Rattle.mn_grammar.specs.Tokens.{is_head, is_mark, is_known_head, is_the_mark, is_the_word, is_the_head, name_of, number_of}
+use Rattle.mn_grammar.specs.Tokens.{is_head, is_mark, is_known_head, same_token, is_the_mark, is_the_word, is_the_head, name_of, number_of}
 use Rattle.mn_grammar.specs.Kinds.{kind_at_end}
 use Rattle.mn_grammar.specs.declared.Fault.{Fault}
 use Rattle.mn_grammar.specs.declared.Kind.{Kind}
@@ -83,6 +84,22 @@ loop_by (suc n) step s ts = then_read (step s) (turned (loop_by n step)) ts
 -- turns until one is the last; each that goes on reads a token at least
 unfoldable pub loop : {S V : Type 0} → (S → Reader (Turn S V)) → S → Reader V
 loop step s ts = loop_by (suc (length ts)) step s ts
+
+-- one of certain tokens, which stand for the values of the list
+abbrev pub which_of : {W : Type 0} → (W → Terminal) → List W → Terminal → Option W
+which_of token all t = find (λ w. same_token t (token w)) all
+
+unfoldable pub one_of : {W : Type 0} → Site → (W → Terminal) → List W → (W → Option Kind) → Reader W
+one_of site token all judge = one site (which_of token all) judge
+
+-- a token of one class or of another
+abbrev pub either_of : {V W : Type 0} → Option V → Option W → Option (V ⊎ W)
+either_of (Some v) o = Some (inl v)
+either_of None (Some w) = Some (inr w)
+either_of None None = None
+
+abbrev pub which_either : {V W : Type 0} → (Terminal → Option V) → (Terminal → Option W) → Terminal → Option (V ⊎ W)
+which_either first other t = either_of (first t) (other t)
 
 -- a mark with a condition on it
 abbrev pub which_mark : Mark → Terminal → Option (Unit {0})

@@ -1,6 +1,7 @@
 -- What the grammar asks of a single token.
 use Rattle.std.specs.Prelude.{◌≡◌, ℕ, ℤ, Bool, true, false, not, ◌==◌, ◌||◌, ◌&&◌, List, Option, Some, None, if◌then◌else◌, codes}
 use Rattle.std.specs.List.{list_all}
+use Rattle.std.specs.Ordering.{int_eq}
 use Rattle.std.specs.Str.{byte, bytes_eq}
 use Rattle.mn_lexer.specs.Terminals.{Terminal, word, number, head, mark}
 use Rattle.mn_lexer.specs.declared.marks.Mark.{Mark}
@@ -67,6 +68,14 @@ is_the_word bs _ = false
 abbrev pub is_the_head : List ℕ → Terminal → Bool
 is_the_head bs (head h) = bytes_eq h bs
 is_the_head bs _ = false
+
+-- two tokens are one
+abbrev pub same_token : Terminal → Terminal → Bool
+same_token (word a) (word b) = bytes_eq a b
+same_token (number a) (number b) = int_eq a b
+same_token (head a) (head b) = bytes_eq a b
+same_token (mark a) (mark b) = mark_number a == mark_number b
+same_token _ _ = false
 
 -- a name, by its bytes
 pub record Name : Type 0 where
