@@ -1,17 +1,17 @@
 -- Classes of tokens by a list of them, and of two classes together.
-use Rattle.std.proofs.Common.{◌≡◌, ◌⊎◌, ℕ, Bool, true, false, cond, ◌||◌, List, [], ◌∷◌, find, Option, Some, None, is_some, refl, sym, ap, ◌∙◌, subst, inl, inr, ⊎_elim}
+use Rattle.std.proofs.Common.{◌≡◌, ◌⊎◌, Bool, true, false, cond, ◌||◌, List, [], ◌∷◌, find, Option, Some, None, is_some, refl, sym, ap, ◌∙◌, subst, inl, inr}
 use Rattle.std.specs.List.{list_all}
-use Rattle.std.proofs.lemmas.Bool.{cases_Bool, and_parts, eqb-true}
+use Rattle.std.proofs.lemmas.Bool.{and_parts}
 use Rattle.std.proofs.lemmas.Bool.Decides.{Decides-int_eq}
 use Rattle.std.proofs.lemmas.Slice.Eq.{bytes_eq-Decides}
 use Rattle.mn_lexer.specs.Terminals.{Terminal, word, number, head, mark}
-use Rattle.mn_grammar.specs.Tokens.{is_mark, is_head, same_token, is_the_mark}
+use Rattle.mn_grammar.specs.Tokens.{same_token}
 use Rattle.mn_grammar.specs.Kinds.{is_condition}
 use Rattle.mn_grammar.specs.Reading.{Site, which_of, one_of, either_of, which_either}
 use Rattle.mn_grammar.specs.Lawful.{IsSite, Fits, Lawful}
 use Rattle.mn_grammar.proofs.Sites.{IsSite-wider, IsSite-wider_back}
 use Rattle.mn_grammar.proofs.Marks.{the_mark}
-use Rattle.mn_grammar.proofs.Leaves.{leaf, of_class, IsClass, IsLeaf, Lawful-one}
+use Rattle.mn_grammar.proofs.Leaves.{leaf, of_class, IsClass, Lawful-one}
 use Rattle.mn_grammar.specs.declared.Kind.{Kind}
 
 -- tokens that the test calls one are one

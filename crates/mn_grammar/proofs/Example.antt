@@ -1,19 +1,19 @@
 -- A small language, to show how a reader is proved exact: `MINION`, names, `**EOF**`. Each name stands once, and there
 -- are two at most.
-use Rattle.std.proofs.Common.{◌≡◌, ◌⊎◌, ℕ, Bool, true, false, cond, leb, ◌||◌, List, [], ◌∷◌, ◌++◌, length, codes, Option, Some, None, is_some, Ok, Err, Result, refl, ap, ◌∙◌, inl, inr, bytes_eq, if◌then◌else◌, arith}
-use Rattle.mn_lexer.specs.Terminals.{Terminal, word, number, head, mark}
+use Rattle.std.proofs.Common.{◌≡◌, ◌⊎◌, ℕ, Bool, true, false, leb, ◌||◌, List, [], ◌∷◌, ◌++◌, length, codes, Option, Some, None, is_some, Ok, Err, Result, refl, ap, inl, inr, bytes_eq, arith}
+use Rattle.mn_lexer.specs.Terminals.{Terminal, word, head}
 use Rattle.mn_lexer.specs.declared.LexFault.{LexFault}
-use Rattle.mn_grammar.specs.Tokens.{Name, is_name, name_of}
+use Rattle.mn_grammar.specs.Tokens.{Name, name_of}
 use Rattle.mn_grammar.specs.Kinds.{is_condition}
 use Rattle.mn_grammar.specs.Places.{Break, when, on, behind}
-use Rattle.mn_grammar.specs.Reading.{Reader, mixed, fixed, Turn, goes_on, is_done, one, ret, then_read, loop, word_at, whole}
+use Rattle.mn_grammar.specs.Reading.{Reader, mixed, fixed, Turn, goes_on, is_done, either_of, which_of, which_either, one, ret, then_read, loop, word_at, whole}
 use Rattle.mn_grammar.specs.Lawful.{Spec, first, Lawful}
 use Rattle.mn_grammar.specs.Laws.{IsExact}
 use Rattle.mn_grammar.proofs.Breaks.{alike_append, alike_behind, or_then, on_when, kind_when, kind_or}
 use Rattle.mn_grammar.proofs.Leaves.{leaf, Lawful-one}
-use Rattle.mn_grammar.proofs.Words.{name_token, of_name, the_head, a_word_leaf, Lawful-word}
-use Rattle.mn_grammar.proofs.Joins.{joined, Lawful-then}
-use Rattle.mn_grammar.proofs.Steps.{join_leaf, valued, Lawful-valued}
+use Rattle.mn_grammar.proofs.Classes.{set_class, either_token, either_value, either_class}
+use Rattle.mn_grammar.proofs.Words.{name_token, name_class, Lawful-word}
+use Rattle.mn_grammar.proofs.Steps.{valued, Lawful-valued, Lawful-token_then}
 use Rattle.mn_grammar.proofs.Views.{Lawful-view}
 use Rattle.mn_grammar.proofs.Loops.{Turns, last, more, turns, Loop, Lawful-loop}
 use Rattle.mn_grammar.proofs.Exact.{exact}
@@ -72,18 +72,19 @@ text_spec = record {
 }
 
 -- 4. The reader: a leaf for a name or the end, a loop over it, a leaf before it
-abbrev name_or_end : Terminal → Option (Option (List ℕ))
-name_or_end (word bs) = if is_name bs then Some (Some bs) else None
-name_or_end (head bs) = if bytes_eq bs (codes "**EOF**") then Some None else None
-name_or_end _ = None
+abbrev end_token : Unit {0} → Terminal
+end_token u = head (codes "**EOF**")
 
-abbrev judge : List (List ℕ) → Option (List ℕ) → Option Kind
-judge seen None = None
-judge seen (Some w) = or_then (once seen w) (room seen)
+abbrev name_or_end : Terminal → Option (List ℕ ⊎ Unit {0})
+name_or_end = which_either name_of (which_of end_token (tt ∷ []))
 
-abbrev turn_of : List (List ℕ) → Option (List ℕ) → Turn (List (List ℕ)) (List (List ℕ))
-turn_of seen None = is_done seen
-turn_of seen (Some w) = goes_on (w ∷ seen)
+abbrev judge : List (List ℕ) → List ℕ ⊎ Unit {0} → Option Kind
+judge seen (inl w) = or_then (once seen w) (room seen)
+judge seen (inr u) = None
+
+abbrev turn_of : List (List ℕ) → List ℕ ⊎ Unit {0} → Turn (List (List ℕ)) (List (List ℕ))
+turn_of seen (inl w) = goes_on (w ∷ seen)
+turn_of seen (inr u) = is_done seen
 
 abbrev step : List (List ℕ) → Reader (Turn (List (List ℕ)) (List (List ℕ)))
 step seen = then_read (one mixed name_or_end (judge seen)) (λ o. ret (turn_of seen o))
@@ -93,38 +94,18 @@ read_text = then_read (word_at (codes "MINION") None) (λ u. loop step [])
 
 -- 5. The leaf is a class of tokens
 abbrev token : Name ⊎ Unit {0} → Terminal
-token (inl n) = name_token n
-token (inr u) = head (codes "**EOF**")
+token = either_token name_token end_token
 
-abbrev value : Name ⊎ Unit {0} → Option (List ℕ)
-value (inl n) = Some n.bytes
-value (inr u) = None
-
-forth : (a : Name ⊎ Unit {0}) → name_or_end (token a) ≡ Some (value a)
-forth (inl n) = ap (λ b. cond b (Some (Some n.bytes)) None) n.lawful
-forth (inr u) = refl
-
-word_back : (bs : List ℕ) (w : Option (List ℕ)) (b : Bool) → is_name bs ≡ b → cond b (Some (Some bs)) None ≡ Some w → (a : Name ⊎ Unit {0}) × (word bs ≡ token a) × (value a ≡ w)
-word_back bs w true e f = (inl (record { bytes = bs; lawful = e }), refl, cc)
-word_back bs w false e f = cc
-
-head_back : (bs : List ℕ) (w : Option (List ℕ)) (b : Bool) → bytes_eq bs (codes "**EOF**") ≡ b → cond b (Some None) None ≡ Some w → (a : Name ⊎ Unit {0}) × (head bs ≡ token a) × (value a ≡ w)
-head_back bs w true e f = (inr tt, the_head (codes "**EOF**") (head bs) e, cc)
-head_back bs w false e f = cc
-
-back : (t : Terminal) (w : Option (List ℕ)) → name_or_end t ≡ Some w → (a : Name ⊎ Unit {0}) × (t ≡ token a) × (value a ≡ w)
-back (word bs) w e = word_back bs w (is_name bs) refl e
-back (head bs) w e = head_back bs w (bytes_eq bs (codes "**EOF**")) refl e
-back (number n) w e = cc
-back (mark m) w e = cc
+abbrev value : Name ⊎ Unit {0} → List ℕ ⊎ Unit {0}
+value = either_value (λ n. n.bytes) (λ u. u)
 
 names_wanted : (t : Terminal) (w : List ℕ) → name_of t ≡ Some w → is_some (name_or_end t) ≡ true
-names_wanted t w e = let n = of_name t w e in ap (λ u. is_some (name_or_end u)) n.1 ∙ ap (λ o. is_some o) (forth (inl n.0))
+names_wanted t w e = ap (λ o. is_some (either_of o (which_of end_token (tt ∷ []) t))) e
 
-judge_kinds : (seen : List (List ℕ)) (w : Option (List ℕ)) (kind : Kind) → judge seen w ≡ Some kind → is_condition kind ≡ true
-judge_kinds seen None kind e = cc
-judge_kinds seen (Some w) kind e =
+judge_kinds : (seen : List (List ℕ)) (w : List ℕ ⊎ Unit {0}) (kind : Kind) → judge seen w ≡ Some kind → is_condition kind ≡ true
+judge_kinds seen (inl w) kind e =
     kind_or (once seen w) (room seen) (kind_when (has_bytes seen w) kinds.Name refl) (kind_when (leb 2 (length seen)) (kinds.Limit limits.Variables) refl) kind e
+judge_kinds seen (inr u) kind e = cc
 
 abbrev a_turn : List (List ℕ) → Spec (Name ⊎ Unit {0}) (Turn (List (List ℕ)) (List (List ℕ)))
 a_turn seen = valued (turn_of seen) (leaf mixed token value (judge seen) (inr tt))
@@ -132,7 +113,7 @@ a_turn seen = valued (turn_of seen) (leaf mixed token value (judge seen) (inr tt
 step_law : (seen : List (List ℕ)) → Lawful (a_turn seen) (step seen)
 step_law seen = Lawful-valued (turn_of seen) (leaf mixed token value (judge seen) (inr tt)) (one mixed name_or_end (judge seen))
     (Lawful-one mixed token value name_or_end (judge seen) (inr tt) (record {
-      class = record { forth = forth; back = back };
+      class = either_class name_token (λ n. n.bytes) name_of end_token (λ u. u) (which_of end_token (tt ∷ [])) name_class (set_class end_token (tt ∷ []) (λ u. refl)) (λ u. refl);
       is_site = ((head (codes "**EOF**"), refl, refl), inl names_wanted);
       kinds = judge_kinds seen;
     }))
@@ -173,7 +154,7 @@ names_spell (more n gs) seen = ap (λ l. word n.bytes ∷ l) (names_spell gs (n.
 names_breaks : (gs : Turns Name (Unit {0})) (seen : List (List ℕ)) → first (breaks_names (names_onto gs) seen) ≡ first ((looped seen).breaks gs)
 names_breaks (last u) seen = refl
 names_breaks (more n gs) seen =
-    alike_append (on (once seen n.bytes) ++ on (room seen)) (on (judge seen (Some n.bytes))) _ _
+    alike_append (on (once seen n.bytes) ++ on (room seen)) (on (judge seen (inl n.bytes))) _ _
     (on_when (has_bytes seen n.bytes) (leb 2 (length seen)) kinds.Name (kinds.Limit limits.Variables) (omega arith))
     (alike_behind 1 (breaks_names (names_onto gs) (n.bytes ∷ seen)) ((looped (n.bytes ∷ seen)).breaks gs) (names_breaks gs (n.bytes ∷ seen)))
 
@@ -201,20 +182,9 @@ names_law seen = Lawful-view (looped seen) (names_spec seen)
 
 -- 7. The text: the word, and the names behind it
 text_law : Lawful text_spec read_text
-text_law = Lawful-view (joined (a_word_leaf (codes "MINION") None) (λ u. names_spec [])) text_spec
-    (record {
-      onto = λ p. p.1;
-      back = λ ns. (tt, ns);
-      again = λ ns. refl;
-      spell = λ p. refl;
-      breaks = λ p. refl;
-      value = λ p. refl;
-      blocks = λ p t. refl;
-      start = refl;
-    })
-    read_text
-    (Lawful-then (a_word_leaf (codes "MINION") None) (λ u. names_spec []) (join_leaf fixed (λ u. word (codes "MINION")) (λ u. u) (λ u. None) tt (λ u. names_spec []))
-    (word_at (codes "MINION") None) (λ u. loop step []) (Lawful-word (codes "MINION") None refl (λ kind e. cc)) (λ u. (names_law []).sound) (λ u kept. names_law []))
+text_law =
+    Lawful-token_then fixed (word (codes "MINION")) None (word_at (codes "MINION") None) (names_spec []) (loop step [])
+    (Lawful-word (codes "MINION") None refl (λ kind e. cc)) (names_law []).sound (λ kept. names_law [])
 
 -- 8. So it accepts exactly the texts, and refuses all other lists at their place
 pub example_is_exact : (stop : Option LexFault) → IsExact text_spec stop (whole stop read_text)

@@ -1,19 +1,20 @@
 -- Another small language: `less(1,2)` and `any{..}` of any number of forms, one within another, with three `less` in
 -- all. It shows a row of arguments with a condition on the values so far, a list that may be empty, nesting to a depth,
 -- and a state that goes through all of it.
-use Rattle.std.proofs.Common.{◌≡◌, ℕ, ℤ, zero, suc, ◌<◌, Bool, true, false, cond, List, [], ◌∷◌, ◌++◌, length, codes, pos, int_lt, leb, Option, Some, None, Ok, Err, Result, refl, sym, ap, ◌∙◌, if◌then◌else◌, arith, append-nil}
+use Rattle.std.proofs.Common.{◌≡◌, ℕ, ℤ, zero, suc, ◌<◌, Bool, true, false, List, [], ◌∷◌, ◌++◌, length, codes, pos, int_lt, leb, Option, Some, None, Ok, Err, Result, refl, sym, ap, ◌∙◌, arith, append-nil}
 use Rattle.mn_lexer.specs.Terminals.{Terminal, word, number, mark}
 use Rattle.mn_lexer.specs.declared.marks.Mark.TheVariants.{OpenCurly, CloseCurly, OpenRound, CloseRound, Comma}
-use Rattle.mn_grammar.specs.Tokens.{is_the_mark, is_the_word}
+use Rattle.mn_grammar.specs.Tokens.{is_the_mark}
 use Rattle.mn_grammar.specs.Kinds.{is_condition}
 use Rattle.mn_grammar.specs.Places.{Break, when, on, behind}
-use Rattle.mn_grammar.specs.Reading.{Reader, fixed, free, marks_only, one, ret, then_read, loop, mark_at, end_at, number_at, never, within, whole}
+use Rattle.mn_grammar.specs.Reading.{Reader, fixed, free, marks_only, which_of, one_of, ret, then_read, loop, mark_at, end_at, number_at, never, within, whole}
 use Rattle.mn_grammar.specs.Lawful.{Spec, first, Sound, Lawful}
 use Rattle.mn_grammar.specs.Lists.{Items, final, also, spell_items, spell_maybe, Ends, Judge, breaks_items, value_items, value_maybe, items_at, maybe_at}
 use Rattle.mn_grammar.specs.Rows.{Sorts, Arguments, row_at}
 use Rattle.mn_grammar.proofs.Breaks.{behind_behind, alike_append, alike_behind, kind_when}
-use Rattle.mn_grammar.proofs.Leaves.{leaf, Lawful-one}
-use Rattle.mn_grammar.proofs.Words.{Lawful-number, the_word}
+use Rattle.mn_grammar.proofs.Leaves.{leaf}
+use Rattle.mn_grammar.proofs.Classes.{Lawful-one_of}
+use Rattle.mn_grammar.proofs.Words.{Lawful-number}
 use Rattle.mn_grammar.proofs.Joins.{joined}
 use Rattle.mn_grammar.proofs.Steps.{join_leaf, valued, Lawful-valued, mark_then, Lawful-mark_then}
 use Rattle.mn_grammar.proofs.Views.{IsView}
@@ -122,8 +123,8 @@ abbrev token : Bool → Terminal
 token true = word (codes "any")
 token false = word (codes "less")
 
-abbrev which_form : Terminal → Option Bool
-which_form t = if is_the_word (codes "any") t then Some true else (if is_the_word (codes "less") t then Some false else None)
+abbrev all_forms : List Bool
+all_forms = true ∷ false ∷ []
 
 abbrev judge : ℕ → ℕ → Bool → Option Kind
 judge d n true = deep d
@@ -131,7 +132,7 @@ judge d n false = room n
 
 -- 3. The reader
 abbrev name_at : ℕ → ℕ → Reader Bool
-name_at d n = one fixed which_form (judge d n)
+name_at d n = one_of fixed token all_forms (judge d n)
 
 abbrev after_at : ℕ → ℕ → (ℕ → Reader ℕ) → Bool → Reader ℕ
 after_at d n inside true = then_read (mark_at marks_only OpenCurly None) (λ u. maybe_at CloseCurly counted None n count inside n)
@@ -272,14 +273,9 @@ view d n = record {
 }
 
 -- 6. The names are a class of tokens
-forth : (b : Bool) → which_form (token b) ≡ Some b
-forth true = refl
-forth false = refl
-
-name_back : (t : Terminal) (w b c : Bool) → is_the_word (codes "any") t ≡ b → is_the_word (codes "less") t ≡ c → cond b (Some true) (cond c (Some false) None) ≡ Some w → (x : Bool) × (t ≡ token x) × (x ≡ w)
-name_back t w true c e f same = (true, the_word (codes "any") t e, cc)
-name_back t w false true e f same = (false, the_word (codes "less") t f, cc)
-name_back t w false false e f same = cc
+known : (b : Bool) → which_of token all_forms (token b) ≡ Some b
+known true = refl
+known false = refl
 
 judge_kinds : (d n : ℕ) (b : Bool) (kind : Kind) → judge d n b ≡ Some kind → is_condition kind ≡ true
 judge_kinds zero n true kind e = kind_when true (kinds.Limit limits.Nesting) refl kind e
@@ -287,14 +283,7 @@ judge_kinds (suc d) n true kind e = cc
 judge_kinds d n false kind e = kind_when (leb 3 n) (kinds.Limit limits.Constraints) refl kind e
 
 name_law : (d n : ℕ) → Lawful (name d n) (name_at d n)
-name_law d n = Lawful-one fixed token (λ b. b) which_form (judge d n) false (record {
-  class = record {
-    forth = forth;
-    back = λ t w e. name_back t w (is_the_word (codes "any") t) (is_the_word (codes "less") t) refl refl e;
-  };
-  is_site = ((refl, refl), (word (codes "any"), refl, refl));
-  kinds = judge_kinds d n;
-})
+name_law d n = Lawful-one_of fixed token all_forms (judge d n) false known ((refl, refl), (word (codes "any"), refl, refl)) (judge_kinds d n)
 
 -- 7. What follows a name is lawful: a row of numbers, or a list of forms
 behind_kinds : (s : Sort) (vs : List ℤ) (kind : Kind) → behind_num s vs ≡ Some kind → is_condition kind ≡ true
@@ -386,21 +375,21 @@ abbrev less_than : ℕ → ℕ → List Terminal
 less_than a b = spell_form (less (pos a) (pos b))
 
 one_less : answer 0 (less_than 1 2) ≡ Ok 1
-unfolding mark_at number_at
+unfolding one_of mark_at number_at
 one_less = refl
 
 out_of_order : answer 0 (less_than 2 1) ≡ Err (record { left = 1; kind = kinds.Shape })
-unfolding mark_at number_at
+unfolding one_of mark_at number_at
 out_of_order = refl
 
 two_inside : answer 1 (spell_form (any_of (and_more (less (pos 1) (pos 2)) (only (less (pos 1) (pos 3)))))) ≡ Ok 2
-unfolding loop mark_at end_at number_at items_at maybe_at
+unfolding one_of loop mark_at end_at number_at items_at maybe_at
 two_inside = refl
 
 too_deep : answer 1 (spell_form (any_of (only (any_of (only (less (pos 2) (pos 1))))))) ≡ Err (record { left = 10; kind = kinds.Limit limits.Nesting })
-unfolding loop mark_at end_at number_at items_at maybe_at
+unfolding one_of loop mark_at end_at number_at items_at maybe_at
 too_deep = refl
 
 too_many : answer 1 (spell_form (any_of (and_more (less (pos 1) (pos 2)) (and_more (less (pos 1) (pos 2)) (and_more (less (pos 1) (pos 2)) (only (less (pos 1) (pos 2)))))))) ≡ Err (record { left = 7; kind = kinds.Limit limits.Constraints })
-unfolding loop mark_at end_at number_at items_at maybe_at
+unfolding one_of loop mark_at end_at number_at items_at maybe_at
 too_many = refl

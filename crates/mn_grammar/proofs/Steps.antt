@@ -82,14 +82,22 @@ module _ {X V W : Type 0} (f : V → W) (s : Spec X V) (read : Reader V) where
     said = λ ts. said_valued ts (read ts) (law.said ts);
   }
 
--- a mark with a condition on it, and what follows
-abbrev pub mark_then : {Y W : Type 0} → Mark → Option Kind → Spec Y W → Spec Y W
-mark_then m c b = record {
-  spell = λ y. mark m ∷ b.spell y;
+-- a leaf, and what follows it by its tokens; where that is lawful whatever stands there
+pub Lawful-leaf_then :
+    {A V W : Type 0} {Y : A → Type 0} (site : Site) (token : A → Terminal) (value : A → V) (judge : V → Option Kind) (some : A) (read : Reader V) (b : (a : A) → Spec (Y a) W) (rb : V → Reader W)
+    → Lawful (leaf site token value judge some) read → ((a : A) → Lawful (b a) (rb (value a)))
+    → Lawful (joined (leaf site token value judge some) b) (then_read read rb)
+Lawful-leaf_then site token value judge some read b rb law laws =
+    Lawful-then (leaf site token value judge some) b (join_leaf site token value judge some b) read rb law (λ a. (laws a).sound) (λ a kept. laws a)
+
+-- one certain token with a condition on it, and what follows
+abbrev pub token_then : {Y W : Type 0} → Site → Terminal → Option Kind → Spec Y W → Spec Y W
+token_then site t c b = record {
+  spell = λ y. t ∷ b.spell y;
   breaks = λ y. on c ++ behind 1 (b.breaks y);
   value = b.value;
   blocks = b.blocks;
-  start = marks_only;
+  start = site;
   any = b.any;
 }
 
@@ -97,24 +105,33 @@ none_of : (c : Option Kind) → on c ≡ [] → c ≡ None
 none_of None e = refl
 none_of (Some kind) e = cc
 
-module _ {Y W : Type 0} (m : Mark) (c : Option Kind) (kinds : (kind : Kind) → c ≡ Some kind → is_condition kind ≡ true) where
-  -- what follows is lawful at least where the condition is kept
-  pub Lawful-mark_then : (b : Spec Y W) (rb : Reader W) → Sound b → (c ≡ None → Lawful b rb) → Lawful (mark_then m c b) (then_read (mark_at marks_only m c) (λ u. rb))
-  Lawful-mark_then b rb sound law =
-      Lawful-view (joined (a_mark marks_only m c) (λ u. b)) (mark_then m c b)
-      (record {
-        onto = λ p. p.1;
-        back = λ y. (tt, y);
-        again = λ y. refl;
-        spell = λ p. refl;
-        breaks = λ p. refl;
-        value = λ p. refl;
-        blocks = λ p t. refl;
-        start = refl;
-      })
-      (then_read (mark_at marks_only m c) (λ u. rb))
-      (Lawful-then (a_mark marks_only m c) (λ u. b) (join_leaf marks_only (λ u. mark m) (λ u. u) (λ u. c) tt (λ u. b)) (mark_at marks_only m c) (λ u. rb)
-      (Lawful-mark m c kinds) (λ u. sound) (λ u kept. law (none_of c kept)))
+-- what follows is lawful at least where the condition is kept
+pub Lawful-token_then :
+    {Y W : Type 0} (site : Site) (t : Terminal) (c : Option Kind) (read : Reader (Unit {0})) (b : Spec Y W) (rb : Reader W)
+    → Lawful (leaf site (λ u. t) (λ u. u) (λ u. c) tt) read → Sound b → (c ≡ None → Lawful b rb)
+    → Lawful (token_then site t c b) (then_read read (λ u. rb))
+Lawful-token_then site t c read b rb token sound law =
+    let one : Spec (Unit {0}) (Unit {0}) = leaf site (λ u. t) (λ u. u) (λ u. c) tt in
+    Lawful-view (joined one (λ u. b)) (token_then site t c b)
+    (record {
+      onto = λ p. p.1;
+      back = λ y. (tt, y);
+      again = λ y. refl;
+      spell = λ p. refl;
+      breaks = λ p. refl;
+      value = λ p. refl;
+      blocks = λ p t. refl;
+      start = refl;
+    })
+    (then_read read (λ u. rb))
+    (Lawful-then one (λ u. b) (join_leaf site (λ u. t) (λ u. u) (λ u. c) tt (λ u. b)) read (λ u. rb) token (λ u. sound) (λ u kept. law (none_of c kept)))
+
+-- a mark with a condition on it, and what follows
+abbrev pub mark_then : {Y W : Type 0} → Mark → Option Kind → Spec Y W → Spec Y W
+mark_then m c b = token_then marks_only (mark m) c b
+
+pub Lawful-mark_then : {Y W : Type 0} (m : Mark) (c : Option Kind) → ((kind : Kind) → c ≡ Some kind → is_condition kind ≡ true) → (b : Spec Y W) (rb : Reader W) → Sound b → (c ≡ None → Lawful b rb) → Lawful (mark_then m c b) (then_read (mark_at marks_only m c) (λ u. rb))
+Lawful-mark_then m c kinds b rb sound law = Lawful-token_then marks_only (mark m) c (mark_at marks_only m c) b rb (Lawful-mark m c kinds) sound law
 
 -- a mark with a condition on it, which is the last
 abbrev pub mark_last : {W : Type 0} → Mark → Option Kind → W → Spec (Unit {0}) W
