@@ -6,7 +6,7 @@ use Rattle.mn_lexer.specs.declared.LexFault.{LexFault}
 use Rattle.mn_grammar.specs.Tokens.{is_head, is_mark, is_known_head}
 use Rattle.mn_grammar.specs.Kinds.{rank}
 use Rattle.mn_grammar.specs.Places.{Break, Has, Begins, WantsName, WantsNumber, IsOther, IsKind, Why, ended, grammar, condition, IsRefusedAt, IsText}
-use Rattle.mn_grammar.specs.Reading.{Answer, Reader, Site, marks_only, free, fixed, mixed, refused, fault_at, kind_at, finished, renamed, named, whole}
+use Rattle.mn_grammar.specs.Reading.{Answer, Reader, Site, MarksOnly, Free, Fixed, Mixed, refused, fault_at, kind_at, finished, renamed, named, whole}
 use Rattle.mn_grammar.specs.Lawful.{Spec, IsOpen, IsSite, Lacks, a_name, a_number, first, answered, answer_of, IsLeft, IsBroken, Said, Lawful}
 use Rattle.mn_grammar.specs.Laws.{Reads, Refuses, IsVerdict, IsWhole, IsExact}
 use Rattle.mn_grammar.proofs.Breaks.{IsFirst, first_is, same_kind, NotBefore}
@@ -132,15 +132,15 @@ module _ {X : Type 0} (spell : X → List Terminal) (breaks : X → List Break) 
   not_other t is other = ⊎_elim other.no_name other.no_number (open_wants is)
 
   no_site : (t : Terminal) (q : List Terminal) (s : Site) → IsSite s wanted → wanted t ≡ false → IsKind spell breaks p t (kind_at s (t ∷ q))
-  no_site t q marks_only only lacks = λ unsupported. ⊎_elim
+  no_site t q MarksOnly only lacks = λ unsupported. ⊎_elim
       (λ strange. others strange.wanted.0 (only strange.wanted.0 (head_no_mark strange.wanted.0 strange.wanted.1)) strange.wanted.2)
       (λ other. others other.wanted.0 (only other.wanted.0 other.wanted.1) other.wanted.2)
       unsupported
-  no_site t q free is lacks = λ unsupported. ⊎_elim
+  no_site t q Free is lacks = λ unsupported. ⊎_elim
       (λ strange. others strange.wanted.0 (is.0 strange.wanted.0 strange.wanted.1) strange.wanted.2)
       (not_other t is.1)
       unsupported
-  no_site t q fixed is lacks = by_mark (is_mark t) refl
+  no_site t q Fixed is lacks = by_mark (is_mark t) refl
     where
       by_mark : (b : Bool) → is_mark t ≡ b → IsKind spell breaks p t (cond b Syntax Unsupported)
       by_mark true e = λ unsupported. ⊎_elim
@@ -153,7 +153,7 @@ module _ {X : Type 0} (spell : X → List Terminal) (breaks : X → List Break) 
         no_name = λ names. others a_name is.0.0 (names a_name _ refl);
         no_number = λ numbers. others a_number is.0.1 (numbers a_number refl);
       })
-  no_site t q mixed is lacks = by_strange (is_head t && not (is_known_head t)) refl
+  no_site t q Mixed is lacks = by_strange (is_head t && not (is_known_head t)) refl
     where
       by_strange : (b : Bool) → (is_head t && not (is_known_head t)) ≡ b → IsKind spell breaks p t (cond b Unsupported Syntax)
       by_strange true e = inl (record {

@@ -6,7 +6,7 @@ use Rattle.mn_lexer.specs.declared.LexFault.{LexFault}
 use Rattle.mn_grammar.specs.Tokens.{Name, name_of}
 use Rattle.mn_grammar.specs.Kinds.{is_condition}
 use Rattle.mn_grammar.specs.Places.{Break, when, on, behind}
-use Rattle.mn_grammar.specs.Reading.{Reader, mixed, fixed, Turn, goes_on, is_done, either_of, which_of, which_either, one, ret, then_read, loop, word_at, whole}
+use Rattle.mn_grammar.specs.Reading.{Reader, Mixed, Fixed, Turn, goes_on, is_done, either_of, which_of, which_either, one, ret, then_read, loop, word_at, whole}
 use Rattle.mn_grammar.specs.Lawful.{Spec, first, Lawful}
 use Rattle.mn_grammar.specs.Laws.{IsExact}
 use Rattle.mn_grammar.proofs.Breaks.{alike_append, alike_behind, or_then, on_when, kind_when, kind_or}
@@ -57,7 +57,7 @@ names_spec seen = record {
   breaks = λ ns. breaks_names ns seen;
   value = λ ns. value_names ns seen;
   blocks = λ ns t. false;
-  start = mixed;
+  start = Mixed;
   any = [];
 }
 
@@ -67,7 +67,7 @@ text_spec = record {
   breaks = λ ns. behind 1 (breaks_names ns []);
   value = λ ns. value_names ns [];
   blocks = λ ns t. false;
-  start = fixed;
+  start = Fixed;
   any = [];
 }
 
@@ -87,7 +87,7 @@ turn_of seen (inl w) = goes_on (w ∷ seen)
 turn_of seen (inr u) = is_done seen
 
 abbrev step : List (List ℕ) → Reader (Turn (List (List ℕ)) (List (List ℕ)))
-step seen = then_read (one mixed name_or_end (judge seen)) (λ o. ret (turn_of seen o))
+step seen = then_read (one Mixed name_or_end (judge seen)) (λ o. ret (turn_of seen o))
 
 abbrev read_text : Reader (List (List ℕ))
 read_text = then_read (word_at (codes "MINION") None) (λ u. loop step [])
@@ -108,11 +108,11 @@ judge_kinds seen (inl w) kind e =
 judge_kinds seen (inr u) kind e = cc
 
 abbrev a_turn : List (List ℕ) → Spec (Name ⊎ Unit {0}) (Turn (List (List ℕ)) (List (List ℕ)))
-a_turn seen = valued (turn_of seen) (leaf mixed token value (judge seen) (inr tt))
+a_turn seen = valued (turn_of seen) (leaf Mixed token value (judge seen) (inr tt))
 
 step_law : (seen : List (List ℕ)) → Lawful (a_turn seen) (step seen)
-step_law seen = Lawful-valued (turn_of seen) (leaf mixed token value (judge seen) (inr tt)) (one mixed name_or_end (judge seen))
-    (Lawful-one mixed token value name_or_end (judge seen) (inr tt) (record {
+step_law seen = Lawful-valued (turn_of seen) (leaf Mixed token value (judge seen) (inr tt)) (one Mixed name_or_end (judge seen))
+    (Lawful-one Mixed token value name_or_end (judge seen) (inr tt) (record {
       class = either_class name_token (λ n. n.bytes) name_of end_token (λ u. u) (which_of end_token (tt ∷ [])) name_class (set_class end_token (tt ∷ []) (λ u. refl)) (λ u. refl);
       is_site = ((head (codes "**EOF**"), refl, refl), inl names_wanted);
       kinds = judge_kinds seen;
@@ -183,7 +183,7 @@ names_law seen = Lawful-view (looped seen) (names_spec seen)
 -- 7. The text: the word, and the names behind it
 text_law : Lawful text_spec read_text
 text_law =
-    Lawful-token_then fixed (word (codes "MINION")) None (word_at (codes "MINION") None) (names_spec []) (loop step [])
+    Lawful-token_then Fixed (word (codes "MINION")) None (word_at (codes "MINION") None) (names_spec []) (loop step [])
     (Lawful-word (codes "MINION") None refl (λ kind e. cc)) (names_law []).sound (λ kept. names_law [])
 
 -- 8. So it accepts exactly the texts, and refuses all other lists at their place

@@ -7,7 +7,7 @@ use Rattle.mn_lexer.specs.declared.marks.Mark.TheVariants.{OpenCurly, CloseCurly
 use Rattle.mn_grammar.specs.Tokens.{is_the_mark}
 use Rattle.mn_grammar.specs.Kinds.{is_condition}
 use Rattle.mn_grammar.specs.Places.{Break, when, on, behind}
-use Rattle.mn_grammar.specs.Reading.{Reader, fixed, free, marks_only, which_of, one_of, ret, then_read, loop, mark_at, end_at, number_at, never, within, whole}
+use Rattle.mn_grammar.specs.Reading.{Reader, Fixed, Free, MarksOnly, which_of, one_of, ret, then_read, loop, mark_at, end_at, number_at, never, within, whole}
 use Rattle.mn_grammar.specs.Lawful.{Spec, first, Sound, Lawful}
 use Rattle.mn_grammar.specs.Lists.{Items, final, also, spell_items, spell_maybe, Ends, Judge, breaks_items, value_items, value_maybe, items_at, maybe_at}
 use Rattle.mn_grammar.specs.Rows.{Sorts, Arguments, row_at}
@@ -87,7 +87,7 @@ form_spec d n = record {
   breaks = λ f. breaks_form f d n;
   value = λ f. value_form f n;
   blocks = λ f t. false;
-  start = fixed;
+  start = Fixed;
   any = any_of_none;
 }
 
@@ -132,12 +132,12 @@ judge d n false = room n
 
 -- 3. The reader
 abbrev name_at : ℕ → ℕ → Reader Bool
-name_at d n = one_of fixed token all_forms (judge d n)
+name_at d n = one_of Fixed token all_forms (judge d n)
 
 abbrev after_at : ℕ → ℕ → (ℕ → Reader ℕ) → Bool → Reader ℕ
-after_at d n inside true = then_read (mark_at marks_only OpenCurly None) (λ u. maybe_at CloseCurly counted None n count inside n)
+after_at d n inside true = then_read (mark_at MarksOnly OpenCurly None) (λ u. maybe_at CloseCurly counted None n count inside n)
 after_at d n inside false =
-    then_read (mark_at marks_only OpenRound None) (λ u. then_read (row_at behind_num (λ s vs. number_at (λ z. None)) row) (λ vs. ret (suc n)))
+    then_read (mark_at MarksOnly OpenRound None) (λ u. then_read (row_at behind_num (λ s vs. number_at (λ z. None)) row) (λ vs. ret (suc n)))
 
 abbrev form_at : ℕ → ℕ → Reader ℕ
 form_at zero n = then_read (name_at zero n) (after_at zero n (λ z. never))
@@ -152,17 +152,17 @@ abbrev judge_of : (ℕ → Spec Form ℕ) → Judge Form ℕ ℕ
 judge_of s = record { spell = spell_form; breaks = λ n. (s n).breaks; value = λ n. (s n).value; ends = counted }
 
 abbrev listed : ℕ → (ℕ → Spec Form ℕ) → Spec (Option (Items Form)) ℕ
-listed n s = maybe_spec CloseCurly (judge_of s) (λ f t. false) fixed any_of_none None n count n
+listed n s = maybe_spec CloseCurly (judge_of s) (λ f t. false) Fixed any_of_none None n count n
 
 abbrev numbers : Spec (Arguments Num row) (List ℤ)
-numbers = row_spec sorts (λ s z t. false) (λ s. free) (λ s. pos 0) row
+numbers = row_spec sorts (λ s z t. false) (λ s. Free) (λ s. pos 0) row
 
 abbrev after : ℕ → ℕ → (ℕ → Spec Form ℕ) → (b : Bool) → Spec (Behind b) ℕ
 after d n s true = mark_then OpenCurly None (listed n s)
 after d n s false = mark_then OpenRound None (valued (λ vs. suc n) numbers)
 
 abbrev at_last : ℕ → ℕ → (b : Bool) → Spec (Behind b) ℕ
-at_last d n true = unread (λ l. mark OpenCurly ∷ spell_maybe CloseCurly spell_form l) (λ l. value_maybe (judge_of (form_spec d)) n count l n) marks_only None
+at_last d n true = unread (λ l. mark OpenCurly ∷ spell_maybe CloseCurly spell_form l) (λ l. value_maybe (judge_of (form_spec d)) n count l n) MarksOnly None
 at_last d n false = mark_then OpenRound None (valued (λ vs. suc n) numbers)
 
 abbrev inner : ℕ → Option ℕ
@@ -170,7 +170,7 @@ inner zero = None
 inner (suc d) = Some d
 
 abbrev name : ℕ → ℕ → Spec Bool Bool
-name d n = leaf fixed token (λ b. b) (judge d n) false
+name d n = leaf Fixed token (λ b. b) (judge d n) false
 
 abbrev following : (d n : ℕ) → (b : Bool) → Spec (Behind b) ℕ
 following d n = behind_name after at_last form_spec d n (inner d)
@@ -283,7 +283,7 @@ judge_kinds (suc d) n true kind e = cc
 judge_kinds d n false kind e = kind_when (leb 3 n) (kinds.Limit limits.Constraints) refl kind e
 
 name_law : (d n : ℕ) → Lawful (name d n) (name_at d n)
-name_law d n = Lawful-one_of fixed token all_forms (judge d n) false known ((refl, refl), (word (codes "any"), refl, refl)) (judge_kinds d n)
+name_law d n = Lawful-one_of Fixed token all_forms (judge d n) false known ((refl, refl), (word (codes "any"), refl, refl)) (judge_kinds d n)
 
 -- 7. What follows a name is lawful: a row of numbers, or a list of forms
 behind_kinds : (s : Sort) (vs : List ℤ) (kind : Kind) → behind_num s vs ≡ Some kind → is_condition kind ≡ true
@@ -293,7 +293,7 @@ behind_kinds s (a ∷ b ∷ c ∷ vs) kind e = cc
 behind_kinds s (a ∷ b ∷ []) kind e = kind_when (int_lt b a) kinds.Shape refl kind e
 
 numbers_law : Lawful numbers (row_at behind_num (λ s vs. number_at (λ z. None)) row)
-numbers_law = row_law sorts (λ s z t. false) (λ s. free) (λ s. pos 0)
+numbers_law = row_law sorts (λ s z t. false) (λ s. Free) (λ s. pos 0)
     (record {
       solid = λ s z e. cc;
       marks = λ s z t e. refl;
@@ -303,7 +303,7 @@ numbers_law = row_law sorts (λ s z t. false) (λ s. free) (λ s. pos 0)
     })
     (λ s vs. number_at (λ z. None)) (λ s vs. Lawful-number (λ z. None) (λ z kind e. cc)) row
 
-less_law : (n : ℕ) → Lawful {V = ℕ} (mark_then OpenRound None (valued (λ vs. suc n) numbers)) (then_read (mark_at marks_only OpenRound None) (λ u. then_read (row_at behind_num (λ s vs. number_at (λ z. None)) row) (λ vs. ret (suc n))))
+less_law : (n : ℕ) → Lawful {V = ℕ} (mark_then OpenRound None (valued (λ vs. suc n) numbers)) (then_read (mark_at MarksOnly OpenRound None) (λ u. then_read (row_at behind_num (λ s vs. number_at (λ z. None)) row) (λ vs. ret (suc n))))
 less_law n =
     let law : Lawful {V = ℕ} (valued (λ vs. suc n) numbers) (then_read (row_at behind_num (λ s vs. number_at (λ z. None)) row) (λ vs. ret (suc n))) = Lawful-valued (λ vs. suc n) numbers (row_at behind_num (λ s vs. number_at (λ z. None)) row) numbers_law in
     Lawful-mark_then OpenRound None (λ kind e. cc) (valued (λ vs. suc n) numbers) _ law.sound (λ kept. law)
@@ -318,9 +318,9 @@ form_not_shut (less a b) t q e = let same : word (codes "less") ≡ t = cc in ap
 form_not_shut any_of_none t q e = let same : word (codes "any") ≡ t = cc in ap (is_the_mark CloseCurly) (sym same)
 form_not_shut (any_of fs) t q e = let same : word (codes "any") ≡ t = cc in ap (is_the_mark CloseCurly) (sym same)
 
-any_law : (d n : ℕ) (read : ℕ → Reader ℕ) → ((z : ℕ) → Lawful (form_spec d z) (read z)) → Lawful (mark_then OpenCurly None (listed n (form_spec d))) (then_read (mark_at marks_only OpenCurly None) (λ u. maybe_at CloseCurly counted None n count read n))
+any_law : (d n : ℕ) (read : ℕ → Reader ℕ) → ((z : ℕ) → Lawful (form_spec d z) (read z)) → Lawful (mark_then OpenCurly None (listed n (form_spec d))) (then_read (mark_at MarksOnly OpenCurly None) (λ u. maybe_at CloseCurly counted None n count read n))
 any_law d n read law =
-    let list = Lawful-maybe CloseCurly (judge_of (form_spec d)) (λ f t. false) fixed any_of_none None n count
+    let list = Lawful-maybe CloseCurly (judge_of (form_spec d)) (λ f t. false) Fixed any_of_none None n count
     (record {
       other = refl;
       solid = form_solid;
@@ -338,7 +338,7 @@ deeper d e n same law true = any_law e n (form_at e) law
 deeper d e n same law false = less_law n
 
 deepest : (d n : ℕ) → inner d ≡ None → (b : Bool) → Sound (at_last d n b)
-deepest d n same true = Sound-unread _ _ marks_only None
+deepest d n same true = Sound-unread _ _ MarksOnly None
 deepest d n same false = (less_law n).sound
 
 deepest_reads : (d n : ℕ) → inner d ≡ None → (b : Bool) → (name d n).breaks b ≡ [] → Lawful (at_last d n b) (after_at d n (λ z. never) b)
@@ -360,7 +360,7 @@ form_law = nest_law inner (λ d. d) name after at_last form_spec name_at after_a
   turn = turn;
   smaller = smaller;
   names = name_law;
-  joins = λ d n. join_leaf fixed token (λ b. b) (judge d n) false (following d n);
+  joins = λ d n. join_leaf Fixed token (λ b. b) (judge d n) false (following d n);
   deeper = deeper;
   deepest = deepest;
   deepest_reads = deepest_reads;

@@ -6,7 +6,7 @@ use Rattle.mn_lexer.specs.declared.marks.Mark.TheVariants.{Comma}
 use Rattle.mn_grammar.specs.Tokens.{is_the_mark}
 use Rattle.mn_grammar.specs.Kinds.{is_condition}
 use Rattle.mn_grammar.specs.Places.{Break, on, behind}
-use Rattle.mn_grammar.specs.Reading.{Answer, Reader, go_on, Site, marks_only, Turn, goes_on, is_done, then_read, ret, loop, mark_at, end_at}
+use Rattle.mn_grammar.specs.Reading.{Answer, Reader, go_on, Site, MarksOnly, Turn, goes_on, is_done, then_read, ret, loop, mark_at, end_at}
 use Rattle.mn_grammar.specs.Lawful.{Spec, OnlyMarks, first, Lawful}
 use Rattle.mn_grammar.specs.Lists.{Items, final, also, spell_items, spell_maybe, Judge, breaks_items, value_items, breaks_maybe, value_maybe, turn_at, items_at, maybe_at}
 use Rattle.mn_grammar.proofs.Breaks.{behind_append, behind_behind}
@@ -266,16 +266,16 @@ module _ {A S V R : Type 0} (shut : Mark) (j : Judge A S V) (blocks : A → Term
 
   module _ (are : Entries shut j blocks start some) (not_shut : (a : A) (t : Terminal) (q : List Terminal) → j.spell a ≡ t ∷ q → is_the_mark shut t ≡ false) (empty_kinds : (kind : Kind) → empty ≡ Some kind → is_condition kind ≡ true) where
     abbrev shut_spec : Spec (Unit {0} × Unit {0}) R
-    shut_spec = joined (a_mark marks_only shut empty) (λ u. nothing marks_only none)
+    shut_spec = joined (a_mark MarksOnly shut empty) (λ u. nothing MarksOnly none)
 
-    shut_law : Lawful shut_spec (then_read (mark_at marks_only shut empty) (λ u. ret none))
+    shut_law : Lawful shut_spec (then_read (mark_at MarksOnly shut empty) (λ u. ret none))
     shut_law =
-        Lawful-then (a_mark marks_only shut empty) (λ u. nothing marks_only none)
-        (record { apart = λ u v t q e. refl; fits = λ u. Fits-nothing marks_only; starts = λ u e. absurd cc })
-        (mark_at marks_only shut empty) (λ u. ret none)
+        Lawful-then (a_mark MarksOnly shut empty) (λ u. nothing MarksOnly none)
+        (record { apart = λ u v t q e. refl; fits = λ u. Fits-nothing MarksOnly; starts = λ u e. absurd cc })
+        (mark_at MarksOnly shut empty) (λ u. ret none)
         (Lawful-mark shut empty empty_kinds)
-        (λ u. (Lawful-ret marks_only none).sound)
-        (λ u kept. Lawful-ret marks_only none)
+        (λ u. (Lawful-ret MarksOnly none).sound)
+        (λ u kept. Lawful-ret MarksOnly none)
 
     items_solid : (l : Items A) → spell_items shut j.spell l ≡ [] → ⊥
     items_solid (final a) e = are.solid a (both_nil (j.spell a) (mark shut ∷ []) e).0
@@ -322,5 +322,5 @@ module _ {A S V R : Type 0} (shut : Mark) (j : Judge A S V) (blocks : A → Term
       unfolding maybe_at
       Lawful-maybe read law =
           Lawful-view (either (is_the_mark shut) shut_spec listed) (maybe_spec s) maybe_view (maybe_at shut j.ends empty none result read s)
-          (Lawful-or (is_the_mark shut) shut_spec listed choice (then_read (mark_at marks_only shut empty) (λ u. ret none)) (items_at shut j.ends result read s)
+          (Lawful-or (is_the_mark shut) shut_spec listed choice (then_read (mark_at MarksOnly shut empty) (λ u. ret none)) (items_at shut j.ends result read s)
           shut_law (Lawful-items shut j blocks start some result are read law s))

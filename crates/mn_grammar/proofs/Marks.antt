@@ -7,7 +7,7 @@ use Rattle.mn_lexer.specs.declared.marks.Mark.TheVariants.{OpenSquare, CloseSqua
 use Rattle.mn_lexer.specs.Marks.{all_marks}
 use Rattle.mn_grammar.specs.Tokens.{is_mark, mark_number, is_the_mark}
 use Rattle.mn_grammar.specs.Kinds.{is_condition}
-use Rattle.mn_grammar.specs.Reading.{Site, marks_only, Turn, goes_on, is_done, which_mark, mark_at, which_end, judge_end, end_at}
+use Rattle.mn_grammar.specs.Reading.{Site, MarksOnly, Turn, goes_on, is_done, which_mark, mark_at, which_end, judge_end, end_at}
 use Rattle.mn_grammar.specs.Lawful.{Spec, OnlyMarks, Lawful}
 use Rattle.mn_grammar.proofs.Leaves.{leaf, IsClass, Lawful-one}
 use Rattle.mn_grammar.specs.declared.Kind.{Kind}
@@ -66,9 +66,9 @@ mark_class m = record {
 }
 
 -- A mark alone is a leaf. Where more than marks is wanted at its place, its site is that of the choice it stands in.
-pub Lawful-mark : (m : Mark) (c : Option Kind) → ((kind : Kind) → c ≡ Some kind → is_condition kind ≡ true) → Lawful (a_mark marks_only m c) (mark_at marks_only m c)
+pub Lawful-mark : (m : Mark) (c : Option Kind) → ((kind : Kind) → c ≡ Some kind → is_condition kind ≡ true) → Lawful (a_mark MarksOnly m c) (mark_at MarksOnly m c)
 unfolding mark_at
-Lawful-mark m c kinds = Lawful-one marks_only (λ u. mark m) (λ u. u) (which_mark m) (λ u. c) tt (record {
+Lawful-mark m c kinds = Lawful-one MarksOnly (λ u. mark m) (λ u. u) (which_mark m) (λ u. c) tt (record {
   class = mark_class m;
   is_site = λ t e. some_mark tt (is_the_mark m t) ∙ no_other m t e;
   kinds = λ w kind e. kinds kind e;
@@ -84,7 +84,7 @@ end_value s r true = goes_on s
 end_value s r false = is_done r
 
 abbrev pub an_end : {S R : Type 0} → Mark → Option Kind → Option Kind → S → R → Spec Bool (Turn S R)
-an_end shut comma close s r = leaf marks_only (end_token shut) (end_value s r) (judge_end comma close) false
+an_end shut comma close s r = leaf MarksOnly (end_token shut) (end_value s r) (judge_end comma close) false
 
 end_forth : {S R : Type 0} (shut : Mark) (s : S) (r : R) → is_the_mark Comma (mark shut) ≡ false → (b : Bool) → which_end shut s r (end_token shut b) ≡ Some (end_value s r b)
 end_forth shut s r other true = refl
@@ -111,7 +111,7 @@ end_site shut s r t e = no_end s r (is_the_mark Comma t) (is_the_mark shut t) (n
 
 pub Lawful-end : {S R : Type 0} (shut : Mark) (comma close : Option Kind) (s : S) (r : R) → is_the_mark Comma (mark shut) ≡ false → ((kind : Kind) → comma ≡ Some kind → is_condition kind ≡ true) → ((kind : Kind) → close ≡ Some kind → is_condition kind ≡ true) → Lawful (an_end shut comma close s r) (end_at shut comma close s r)
 unfolding end_at
-Lawful-end shut comma close s r other a b = Lawful-one marks_only (end_token shut) (end_value s r) (which_end shut s r) (judge_end comma close) false (record {
+Lawful-end shut comma close s r other a b = Lawful-one MarksOnly (end_token shut) (end_value s r) (which_end shut s r) (judge_end comma close) false (record {
   class = record {
     forth = end_forth shut s r other;
     back = λ t w e. end_back shut s r t w (is_the_mark Comma t) (is_the_mark shut t) refl refl e;

@@ -4,7 +4,7 @@ use Rattle.std.proofs.lemmas.Bool.{or_parts, or_from, or_right}
 use Rattle.mn_lexer.specs.Terminals.{Terminal, word, number, head, mark}
 use Rattle.mn_grammar.specs.Tokens.{is_head, is_mark, is_known_head}
 use Rattle.mn_grammar.specs.Kinds.{is_condition}
-use Rattle.mn_grammar.specs.Reading.{Site, marks_only, free, fixed, mixed, kind_at}
+use Rattle.mn_grammar.specs.Reading.{Site, MarksOnly, Free, Fixed, Mixed, kind_at}
 use Rattle.mn_grammar.specs.Lawful.{IsOpen, OnlyMarks, IsSite, Fits, Lacks}
 use Rattle.mn_grammar.specs.declared.Kind.TheVariants.{Unsupported, Syntax}
 
@@ -18,14 +18,14 @@ kind_or false = refl
 
 -- a refusal by the grammar has no kind of a condition
 pub kind_of_site : (s : Site) (us : List Terminal) → is_condition (kind_at s us) ≡ false
-kind_of_site fixed (t ∷ us) = kind_or (is_mark t)
-kind_of_site mixed (t ∷ us) = either_kind (is_head t && not (is_known_head t))
-kind_of_site marks_only (t ∷ us) = refl
-kind_of_site free (t ∷ us) = refl
-kind_of_site fixed [] = refl
-kind_of_site mixed [] = refl
-kind_of_site marks_only [] = refl
-kind_of_site free [] = refl
+kind_of_site Fixed (t ∷ us) = kind_or (is_mark t)
+kind_of_site Mixed (t ∷ us) = either_kind (is_head t && not (is_known_head t))
+kind_of_site MarksOnly (t ∷ us) = refl
+kind_of_site Free (t ∷ us) = refl
+kind_of_site Fixed [] = refl
+kind_of_site Mixed [] = refl
+kind_of_site MarksOnly [] = refl
+kind_of_site Free [] = refl
 
 open_wider : (f g : Terminal → Bool) → IsOpen f → IsOpen (λ t. g t || f t)
 open_wider f g (inl names) = inl (λ t w e. or_right (g t) (f t) (names t w e))
@@ -33,10 +33,10 @@ open_wider f g (inr numbers) = inr (λ t e. or_right (g t) (f t) (numbers t e))
 
 -- a site stays the same where tokens that fit it are wanted too
 pub IsSite-wider : (s : Site) (g f : Terminal → Bool) → Fits s g → IsSite s f → IsSite s (λ t. g t || f t)
-IsSite-wider marks_only g f fits is = λ t e. or_from (g t) (f t) (fits t e) (is t e)
-IsSite-wider free g f fits is = (λ t e. or_from (g t) (f t) (fits t e) (is.0 t e), open_wider f g is.1)
-IsSite-wider fixed g f fits is = ((or_from _ _ fits.0 is.0.0, or_from _ _ fits.1 is.0.1), (is.1.0, is.1.1, or_right (g is.1.0) (f is.1.0) is.1.2))
-IsSite-wider mixed g f fits is = ((is.0.0, is.0.1, or_right (g is.0.0) (f is.0.0) is.0.2), open_wider f g is.1)
+IsSite-wider MarksOnly g f fits is = λ t e. or_from (g t) (f t) (fits t e) (is t e)
+IsSite-wider Free g f fits is = (λ t e. or_from (g t) (f t) (fits t e) (is.0 t e), open_wider f g is.1)
+IsSite-wider Fixed g f fits is = ((or_from _ _ fits.0 is.0.0, or_from _ _ fits.1 is.0.1), (is.1.0, is.1.1, or_right (g is.1.0) (f is.1.0) is.1.2))
+IsSite-wider Mixed g f fits is = ((is.0.0, is.0.1, or_right (g is.0.0) (f is.0.0) is.0.2), open_wider f g is.1)
 
 or_swap : (x y : Bool) → (x || y) ≡ (y || x)
 or_swap true true = refl
@@ -56,10 +56,10 @@ head_no_mark (mark m) e = cc
 
 -- marks fit each site, and so does nothing
 pub Fits-marks : (s : Site) (g : Terminal → Bool) → OnlyMarks g → Fits s g
-Fits-marks marks_only g only = only
-Fits-marks free g only = λ t e. only t (head_no_mark t e)
-Fits-marks fixed g only = (only _ refl, only _ refl)
-Fits-marks mixed g only = tt
+Fits-marks MarksOnly g only = only
+Fits-marks Free g only = λ t e. only t (head_no_mark t e)
+Fits-marks Fixed g only = (only _ refl, only _ refl)
+Fits-marks Mixed g only = tt
 
 pub Fits-nothing : (s : Site) → Fits s (λ t. false)
 Fits-nothing s = Fits-marks s (λ t. false) (λ t e. refl)

@@ -4,7 +4,7 @@ use Rattle.mn_lexer.specs.Terminals.{Terminal, mark}
 use Rattle.mn_lexer.specs.declared.marks.Mark.{Mark}
 use Rattle.mn_grammar.specs.Kinds.{is_condition}
 use Rattle.mn_grammar.specs.Places.{Break, on, behind}
-use Rattle.mn_grammar.specs.Reading.{Answer, Reader, Site, marks_only, go_on, then_read, ret, or_else, mark_at}
+use Rattle.mn_grammar.specs.Reading.{Answer, Reader, Site, MarksOnly, go_on, then_read, ret, or_else, mark_at}
 use Rattle.mn_grammar.specs.Lawful.{Spec, OnlyMarks, Fits, first, answered, Sound, Said, Lawful}
 use Rattle.mn_grammar.proofs.Sites.{Fits-nothing}
 use Rattle.mn_grammar.proofs.Leaves.{leaf, nothing, Lawful-ret}
@@ -27,7 +27,7 @@ join_leaf site token value judge some b = record {
 -- Behind what has tokens, and with which only marks go on, may stand what begins with another mark.
 pub join_mark :
     {X V W : Type 0} {Y : X → Type 0} (a : Spec X V) (b : (x : X) → Spec (Y x) W)
-    → ((x : X) → a.spell x ≡ [] → ⊥) → ((x : X) → OnlyMarks (a.blocks x)) → ((x : X) → (b x).start ≡ marks_only)
+    → ((x : X) → a.spell x ≡ [] → ⊥) → ((x : X) → OnlyMarks (a.blocks x)) → ((x : X) → (b x).start ≡ MarksOnly)
     → ((x : X) (y : Y x) (t : Terminal) (q : List Terminal) → (b x).spell y ≡ t ∷ q → a.blocks x t ≡ false)
     → Join a b
 join_mark a b solid marks starts apart = record {
@@ -128,17 +128,17 @@ Lawful-token_then site t c read b rb token sound law =
 
 -- a mark with a condition on it, and what follows
 abbrev pub mark_then : {Y W : Type 0} → Mark → Option Kind → Spec Y W → Spec Y W
-mark_then m c b = token_then marks_only (mark m) c b
+mark_then m c b = token_then MarksOnly (mark m) c b
 
-pub Lawful-mark_then : {Y W : Type 0} (m : Mark) (c : Option Kind) → ((kind : Kind) → c ≡ Some kind → is_condition kind ≡ true) → (b : Spec Y W) (rb : Reader W) → Sound b → (c ≡ None → Lawful b rb) → Lawful (mark_then m c b) (then_read (mark_at marks_only m c) (λ u. rb))
-Lawful-mark_then m c kinds b rb sound law = Lawful-token_then marks_only (mark m) c (mark_at marks_only m c) b rb (Lawful-mark m c kinds) sound law
+pub Lawful-mark_then : {Y W : Type 0} (m : Mark) (c : Option Kind) → ((kind : Kind) → c ≡ Some kind → is_condition kind ≡ true) → (b : Spec Y W) (rb : Reader W) → Sound b → (c ≡ None → Lawful b rb) → Lawful (mark_then m c b) (then_read (mark_at MarksOnly m c) (λ u. rb))
+Lawful-mark_then m c kinds b rb sound law = Lawful-token_then MarksOnly (mark m) c (mark_at MarksOnly m c) b rb (Lawful-mark m c kinds) sound law
 
 -- a mark with a condition on it, which is the last
 abbrev pub mark_last : {W : Type 0} → Mark → Option Kind → W → Spec (Unit {0}) W
-mark_last m c w = valued (λ u. w) (a_mark marks_only m c)
+mark_last m c w = valued (λ u. w) (a_mark MarksOnly m c)
 
-pub Lawful-mark_last : {W : Type 0} (m : Mark) (c : Option Kind) (w : W) → ((kind : Kind) → c ≡ Some kind → is_condition kind ≡ true) → Lawful (mark_last m c w) (then_read (mark_at marks_only m c) (λ u. ret w))
-Lawful-mark_last m c w kinds = Lawful-valued (λ u. w) (a_mark marks_only m c) (mark_at marks_only m c) (Lawful-mark m c kinds)
+pub Lawful-mark_last : {W : Type 0} (m : Mark) (c : Option Kind) (w : W) → ((kind : Kind) → c ≡ Some kind → is_condition kind ≡ true) → Lawful (mark_last m c w) (then_read (mark_at MarksOnly m c) (λ u. ret w))
+Lawful-mark_last m c w kinds = Lawful-valued (λ u. w) (a_mark MarksOnly m c) (mark_at MarksOnly m c) (Lawful-mark m c kinds)
 
 -- a part that may be left out; what it begins with is told by its first token
 module _ {X V : Type 0} (test : Terminal → Bool) (s : Spec X V) (site : Site) (none : V) where

@@ -3,7 +3,7 @@ use Rattle.std.proofs.Common.{◌≡◌, Bool, true, false, List, [], ◌∷◌,
 use Rattle.mn_lexer.specs.Terminals.{Terminal, mark}
 use Rattle.mn_lexer.specs.declared.marks.Mark.TheVariants.{Comma, CloseRound}
 use Rattle.mn_grammar.specs.Kinds.{is_condition}
-use Rattle.mn_grammar.specs.Reading.{Reader, Site, marks_only, then_read, ret, mark_at}
+use Rattle.mn_grammar.specs.Reading.{Reader, Site, MarksOnly, then_read, ret, mark_at}
 use Rattle.mn_grammar.specs.Lawful.{Spec, OnlyMarks, Lawful}
 use Rattle.mn_grammar.specs.Rows.{Sorts, Arguments, with_value, spell_more, breaks_more, values_more, spell_row, breaks_row, values_row, more_at, row_at}
 use Rattle.mn_grammar.proofs.Joins.{joined, Join, Lawful-then}
@@ -49,7 +49,7 @@ module _ {K Val : Type 0} {Tree : K → Type 0} (sorts : Sorts K Val Tree) (bloc
   }
 
   abbrev pub start_of : List K → Site
-  start_of [] = marks_only
+  start_of [] = MarksOnly
   start_of (k ∷ ks) = start k
 
   -- the trees of a row
@@ -96,12 +96,12 @@ module _ {K Val : Type 0} {Tree : K → Type 0} (sorts : Sorts K Val Tree) (bloc
         })
         (more_at sorts.on_mark read k (l ∷ others) vs)
         (Lawful-then (sort_spec k vs) (after_more k l others vs) (join_more k l others vs) (read k vs)
-        (λ v. then_read (mark_at marks_only Comma (sorts.on_mark k (vs ++ v ∷ []))) (λ u. more_at sorts.on_mark read l others (vs ++ v ∷ [])))
+        (λ v. then_read (mark_at MarksOnly Comma (sorts.on_mark k (vs ++ v ∷ []))) (λ u. more_at sorts.on_mark read l others (vs ++ v ∷ [])))
         (law k vs)
         (λ a. (after_law a).sound)
         (λ a kept. after_law a))
       where
-        after_law : (a : Tree k) → Lawful (after_more k l others vs a) (then_read (mark_at marks_only Comma (c k vs a)) (λ u. more_at sorts.on_mark read l others (with_value sorts k vs a)))
+        after_law : (a : Tree k) → Lawful (after_more k l others vs a) (then_read (mark_at MarksOnly Comma (c k vs a)) (λ u. more_at sorts.on_mark read l others (with_value sorts k vs a)))
         after_law a =
             let ws = with_value sorts k vs a in
             Lawful-mark_then Comma (c k vs a) (are.mark_kinds k ws) (more_spec l others ws) (more_at sorts.on_mark read l others ws) (more ws).sound (λ kept. more ws)
@@ -121,12 +121,12 @@ module _ {K Val : Type 0} {Tree : K → Type 0} (sorts : Sorts K Val Tree) (bloc
         })
         (more_at sorts.on_mark read k [] vs)
         (Lawful-then (sort_spec k vs) (after_last k vs) (join_last k vs) (read k vs)
-        (λ v. then_read (mark_at marks_only CloseRound (sorts.on_mark k (vs ++ v ∷ []))) (λ u. ret (vs ++ v ∷ [])))
+        (λ v. then_read (mark_at MarksOnly CloseRound (sorts.on_mark k (vs ++ v ∷ []))) (λ u. ret (vs ++ v ∷ [])))
         (law k vs)
         (λ a. (last_law a).sound)
         (λ a kept. last_law a))
       where
-        last_law : (a : Tree k) → Lawful (after_last k vs a) (then_read (mark_at marks_only CloseRound (c k vs a)) (λ u. ret (with_value sorts k vs a)))
+        last_law : (a : Tree k) → Lawful (after_last k vs a) (then_read (mark_at MarksOnly CloseRound (c k vs a)) (λ u. ret (with_value sorts k vs a)))
         last_law a = Lawful-mark_last CloseRound (c k vs a) (with_value sorts k vs a) (are.mark_kinds k (with_value sorts k vs a))
 
     -- the law of the sort k and the others

@@ -4,7 +4,7 @@ use Rattle.std.proofs.lemmas.Slice.Eq.{bytes_eq-Decides}
 use Rattle.mn_lexer.specs.Terminals.{Terminal, word, number, head, mark}
 use Rattle.mn_grammar.specs.Tokens.{Name, is_name, name_of, number_of, is_number, is_head, is_the_word, is_the_head}
 use Rattle.mn_grammar.specs.Kinds.{is_condition}
-use Rattle.mn_grammar.specs.Reading.{free, fixed, which_word, which_head, name_at, number_at, word_at, head_at}
+use Rattle.mn_grammar.specs.Reading.{Free, Fixed, which_word, which_head, name_at, number_at, word_at, head_at}
 use Rattle.mn_grammar.specs.Lawful.{Spec, Lawful, a_name}
 use Rattle.mn_grammar.proofs.Leaves.{leaf, IsClass, Lawful-one}
 use Rattle.mn_grammar.specs.declared.Kind.{Kind}
@@ -33,14 +33,14 @@ head_no_name (number n) e = cc
 head_no_name (mark m) e = cc
 
 abbrev pub a_name_leaf : (List ℕ → Option Kind) → Spec Name (List ℕ)
-a_name_leaf judge = leaf free name_token (λ n. n.bytes) judge (record { bytes = codes "a"; lawful = refl })
+a_name_leaf judge = leaf Free name_token (λ n. n.bytes) judge (record { bytes = codes "a"; lawful = refl })
 
 pub name_class : IsClass name_token (λ n. n.bytes) name_of
 name_class = record { forth = name_of_name; back = of_name }
 
 pub Lawful-name : (judge : List ℕ → Option Kind) → ((w : List ℕ) (kind : Kind) → judge w ≡ Some kind → is_condition kind ≡ true) → Lawful (a_name_leaf judge) (name_at judge)
 unfolding name_at
-Lawful-name judge kinds = Lawful-one free name_token (λ n. n.bytes) name_of judge (record { bytes = codes "a"; lawful = refl }) (record {
+Lawful-name judge kinds = Lawful-one Free name_token (λ n. n.bytes) name_of judge (record { bytes = codes "a"; lawful = refl }) (record {
   class = name_class;
   is_site = (head_no_name, inl (λ t w e. ap (λ o. is_some o) e));
   kinds = kinds;
@@ -66,14 +66,14 @@ all_numbers (head bs) e = cc
 all_numbers (mark m) e = cc
 
 abbrev pub a_number_leaf : (ℤ → Option Kind) → Spec ℤ ℤ
-a_number_leaf judge = leaf free (λ n. number n) (λ n. n) judge (pos 0)
+a_number_leaf judge = leaf Free (λ n. number n) (λ n. n) judge (pos 0)
 
 pub number_class : IsClass (λ n. number n) (λ n. n) number_of
 number_class = record { forth = λ n. refl; back = of_number }
 
 pub Lawful-number : (judge : ℤ → Option Kind) → ((z : ℤ) (kind : Kind) → judge z ≡ Some kind → is_condition kind ≡ true) → Lawful (a_number_leaf judge) (number_at judge)
 unfolding number_at
-Lawful-number judge kinds = Lawful-one free (λ n. number n) (λ n. n) number_of judge (pos 0) (record {
+Lawful-number judge kinds = Lawful-one Free (λ n. number n) (λ n. n) number_of judge (pos 0) (record {
   class = number_class;
   is_site = (head_no_number, inr all_numbers);
   kinds = kinds;
@@ -101,7 +101,7 @@ the_head bs (word w) e = cc
 the_head bs (mark m) e = cc
 
 abbrev pub a_word_leaf : List ℕ → Option Kind → Spec (Unit {0}) (Unit {0})
-a_word_leaf bs c = leaf fixed (λ u. word bs) (λ u. u) (λ u. c) tt
+a_word_leaf bs c = leaf Fixed (λ u. word bs) (λ u. u) (λ u. c) tt
 
 pub word_class : (bs : List ℕ) → IsClass (λ u. word bs) (λ u. u) (which_word bs)
 word_class bs = record {
@@ -111,7 +111,7 @@ word_class bs = record {
 
 pub Lawful-word : (bs : List ℕ) (c : Option Kind) → is_the_word bs a_name ≡ false → ((kind : Kind) → c ≡ Some kind → is_condition kind ≡ true) → Lawful (a_word_leaf bs c) (word_at bs c)
 unfolding word_at
-Lawful-word bs c other kinds = Lawful-one fixed (λ u. word bs) (λ u. u) (which_word bs) (λ u. c) tt (record {
+Lawful-word bs c other kinds = Lawful-one Fixed (λ u. word bs) (λ u. u) (which_word bs) (λ u. c) tt (record {
   class = word_class bs;
   is_site = ((some_where tt (is_the_word bs a_name) ∙ other, refl), (word bs, refl, some_where tt (bytes_eq bs bs) ∙ (bytes_eq-Decides bs bs).1 refl));
   kinds = λ u kind e. kinds kind e;
@@ -119,7 +119,7 @@ Lawful-word bs c other kinds = Lawful-one fixed (λ u. word bs) (λ u. u) (which
 
 -- a certain head
 abbrev pub a_head_leaf : List ℕ → Option Kind → Spec (Unit {0}) (Unit {0})
-a_head_leaf bs c = leaf fixed (λ u. head bs) (λ u. u) (λ u. c) tt
+a_head_leaf bs c = leaf Fixed (λ u. head bs) (λ u. u) (λ u. c) tt
 
 pub head_class : (bs : List ℕ) → IsClass (λ u. head bs) (λ u. u) (which_head bs)
 head_class bs = record {
@@ -129,7 +129,7 @@ head_class bs = record {
 
 pub Lawful-head : (bs : List ℕ) (c : Option Kind) → ((kind : Kind) → c ≡ Some kind → is_condition kind ≡ true) → Lawful (a_head_leaf bs c) (head_at bs c)
 unfolding head_at
-Lawful-head bs c kinds = Lawful-one fixed (λ u. head bs) (λ u. u) (which_head bs) (λ u. c) tt (record {
+Lawful-head bs c kinds = Lawful-one Fixed (λ u. head bs) (λ u. u) (which_head bs) (λ u. c) tt (record {
   class = head_class bs;
   is_site = ((refl, refl), (head bs, refl, some_where tt (bytes_eq bs bs) ∙ (bytes_eq-Decides bs bs).1 refl));
   kinds = λ u kind e. kinds kind e;

@@ -4,7 +4,7 @@ use Rattle.mn_lexer.specs.Terminals.{Terminal, word, number}
 use Rattle.mn_grammar.specs.Tokens.{name_of, is_head, is_mark, is_number}
 use Rattle.mn_grammar.specs.Kinds.{rank, is_condition}
 use Rattle.mn_grammar.specs.Places.{Break, IsFine}
-use Rattle.mn_grammar.specs.Reading.{Answer, Reader, Site, marks_only, free, fixed, mixed, fault_at, refused}
+use Rattle.mn_grammar.specs.Reading.{Answer, Reader, Site, MarksOnly, Free, Fixed, Mixed, fault_at, refused}
 use Rattle.mn_grammar.specs.declared.Fault.{Fault}
 use Rattle.mn_grammar.specs.declared.Kind.{Kind}
 
@@ -42,17 +42,17 @@ OnlyMarks f = (t : Terminal) → is_mark t ≡ false → f t ≡ false
 
 -- where these tokens are wanted, the site is this
 abbrev pub IsSite : Site → (Terminal → Bool) → Type 0
-IsSite marks_only f = OnlyMarks f
-IsSite free f = NoHead f × IsOpen f
-IsSite fixed f = IsClosed f × ((t : Terminal) × (is_mark t ≡ false) × (f t ≡ true))
-IsSite mixed f = ((t : Terminal) × (is_head t ≡ true) × (f t ≡ true)) × IsOpen f
+IsSite MarksOnly f = OnlyMarks f
+IsSite Free f = NoHead f × IsOpen f
+IsSite Fixed f = IsClosed f × ((t : Terminal) × (is_mark t ≡ false) × (f t ≡ true))
+IsSite Mixed f = ((t : Terminal) × (is_head t ≡ true) × (f t ≡ true)) × IsOpen f
 
 -- where these tokens are wanted too, the site stays the same
 abbrev pub Fits : Site → (Terminal → Bool) → Type 0
-Fits marks_only g = OnlyMarks g
-Fits free g = NoHead g
-Fits fixed g = IsClosed g
-Fits mixed g = Unit {0}
+Fits MarksOnly g = OnlyMarks g
+Fits Free g = NoHead g
+Fits Fixed g = IsClosed g
+Fits Mixed g = Unit {0}
 
 -- the list doesn't begin with one of these tokens
 abbrev pub Lacks : (Terminal → Bool) → List Terminal → Type 0

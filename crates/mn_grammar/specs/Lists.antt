@@ -5,7 +5,7 @@ use Rattle.mn_lexer.specs.declared.marks.Mark.{Mark}
 use Rattle.mn_lexer.specs.declared.marks.Mark.TheVariants.{Comma}
 use Rattle.mn_grammar.specs.Tokens.{is_the_mark}
 use Rattle.mn_grammar.specs.Places.{Break, on, behind}
-use Rattle.mn_grammar.specs.Reading.{Reader, marks_only, Turn, then_read, ret, or_else, loop, mark_at, end_at}
+use Rattle.mn_grammar.specs.Reading.{Reader, MarksOnly, Turn, then_read, ret, or_else, loop, mark_at, end_at}
 use Rattle.mn_grammar.specs.declared.Kind.{Kind}
 
 -- one or more entries
@@ -67,4 +67,4 @@ value_maybe j none result (Some items) s = value_items j result items s
 
 unfoldable pub maybe_at : {S V R : Type 0} → Mark → Ends S V → Option Kind → R → (S → V → R) → (S → Reader V) → S → Reader R
 maybe_at shut ends empty none result entry s =
-    or_else (is_the_mark shut) (then_read (mark_at marks_only shut empty) (λ _. ret none)) (items_at shut ends result entry s)
+    or_else (is_the_mark shut) (then_read (mark_at MarksOnly shut empty) (λ _. ret none)) (items_at shut ends result entry s)

@@ -9,6 +9,8 @@ use Rattle.mn_lexer.specs.declared.marks.Mark.TheVariants.{Comma}
 use Rattle.mn_grammar.specs.Tokens.{is_head, is_mark, is_known_head, same_token, is_the_mark, is_the_word, is_the_head, name_of, number_of}
 use Rattle.mn_grammar.specs.Kinds.{kind_at_end}
 use Rattle.mn_grammar.specs.declared.Fault.{Fault}
+pub use Rattle.mn_grammar.specs.declared.site.Site.{Site}
+pub use Rattle.mn_grammar.specs.declared.site.Site.TheVariants.{MarksOnly, Free, Fixed, Mixed}
 use Rattle.mn_grammar.specs.declared.Kind.{Kind}
 use Rattle.mn_grammar.specs.declared.Kind.TheVariants.{Unsupported, Syntax}
 
@@ -23,15 +25,10 @@ Reader V = List Terminal → Answer V
 abbrev pub fault_at : List Terminal → Kind → Fault
 fault_at ts kind = record { left = length ts; kind = kind }
 
--- What is wanted at a place, as far as the kind of a refusal hangs on it: marks alone; a name or any number, and
--- no head; certain words, heads or numbers; a name or any number, and heads too.
-pub data Site : Type 0 where
-  marks_only free fixed mixed : Site
-
 -- the kind at a token that isn't wanted, and at the list's end
 abbrev pub kind_at : Site → List Terminal → Kind
-kind_at fixed (t ∷ ts) = if is_mark t then Syntax else Unsupported
-kind_at mixed (t ∷ ts) = if is_head t && not (is_known_head t) then Unsupported else Syntax
+kind_at Fixed (t ∷ ts) = if is_mark t then Syntax else Unsupported
+kind_at Mixed (t ∷ ts) = if is_head t && not (is_known_head t) then Unsupported else Syntax
 kind_at _ _ = Syntax
 
 abbrev pub refused : Site → List Terminal → Fault
@@ -110,22 +107,22 @@ mark_at s m c = one s (which_mark m) (λ _. c)
 
 -- a name, any number, a certain word or head, each with a condition on it
 unfoldable pub name_at : (List ℕ → Option Kind) → Reader (List ℕ)
-name_at judge = one free name_of judge
+name_at judge = one Free name_of judge
 
 unfoldable pub number_at : (ℤ → Option Kind) → Reader ℤ
-number_at judge = one free number_of judge
+number_at judge = one Free number_of judge
 
 abbrev pub which_word : List ℕ → Terminal → Option (Unit {0})
 which_word bs t = if is_the_word bs t then Some tt else None
 
 unfoldable pub word_at : List ℕ → Option Kind → Reader (Unit {0})
-word_at bs c = one fixed (which_word bs) (λ _. c)
+word_at bs c = one Fixed (which_word bs) (λ _. c)
 
 abbrev pub which_head : List ℕ → Terminal → Option (Unit {0})
 which_head bs t = if is_the_head bs t then Some tt else None
 
 unfoldable pub head_at : List ℕ → Option Kind → Reader (Unit {0})
-head_at bs c = one fixed (which_head bs) (λ _. c)
+head_at bs c = one Fixed (which_head bs) (λ _. c)
 
 -- behind an entry of a list: `,`, and the list goes on, or the mark that closes it
 abbrev pub which_end : {S V : Type 0} → Mark → S → V → Terminal → Option (Turn S V)
@@ -137,7 +134,7 @@ judge_end comma close (goes_on s) = comma
 judge_end comma close (is_done v) = close
 
 unfoldable pub end_at : {S V : Type 0} → Mark → Option Kind → Option Kind → S → V → Reader (Turn S V)
-end_at shut comma close s v = one marks_only (which_end shut s v) (judge_end comma close)
+end_at shut comma close s v = one MarksOnly (which_end shut s v) (judge_end comma close)
 
 -- a reader of what is never read, and the reader of what stands inside, where it is read
 abbrev pub never : {V : Type 0} → Reader V

@@ -3,7 +3,7 @@ use Rattle.std.specs.Prelude.{List, [], ◌∷◌, ◌++◌, length, Option, Non
 use Rattle.mn_lexer.specs.Terminals.{Terminal, mark}
 use Rattle.mn_lexer.specs.declared.marks.Mark.TheVariants.{Comma, CloseRound}
 use Rattle.mn_grammar.specs.Places.{Break, on, behind}
-use Rattle.mn_grammar.specs.Reading.{Reader, marks_only, then_read, ret, mark_at}
+use Rattle.mn_grammar.specs.Reading.{Reader, MarksOnly, then_read, ret, mark_at}
 use Rattle.mn_grammar.specs.declared.Kind.{Kind}
 
 -- The sorts of argument K: the trees of each, how they are spelled, what they break and stand for behind the values
@@ -57,11 +57,11 @@ module _ {K Val : Type 0} {Tree : K → Type 0} (sorts : Sorts K Val Tree) where
 module _ {K Val : Type 0} (on_mark : K → List Val → Option Kind) (read : K → List Val → Reader Val) where
   abbrev pub more_at : K → List K → List Val → Reader (List Val)
   more_at k [] vs =
-      then_read (read k vs) (λ v. then_read (mark_at marks_only CloseRound (on_mark k (vs ++ v ∷ []))) (λ u. ret (vs ++ v ∷ [])))
+      then_read (read k vs) (λ v. then_read (mark_at MarksOnly CloseRound (on_mark k (vs ++ v ∷ []))) (λ u. ret (vs ++ v ∷ [])))
   more_at k (l ∷ others) vs =
-      then_read (read k vs) (λ v. then_read (mark_at marks_only Comma (on_mark k (vs ++ v ∷ []))) (λ u. more_at l others (vs ++ v ∷ [])))
+      then_read (read k vs) (λ v. then_read (mark_at MarksOnly Comma (on_mark k (vs ++ v ∷ []))) (λ u. more_at l others (vs ++ v ∷ [])))
 
   -- what stands behind the `(` of a form
   abbrev pub row_at : List K → Reader (List Val)
-  row_at [] = then_read (mark_at marks_only CloseRound None) (λ u. ret [])
+  row_at [] = then_read (mark_at MarksOnly CloseRound None) (λ u. ret [])
   row_at (k ∷ ks) = more_at k ks []

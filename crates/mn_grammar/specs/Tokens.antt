@@ -1,6 +1,6 @@
 -- What the grammar asks of a single token.
-use Rattle.std.specs.Prelude.{◌≡◌, ℕ, ℤ, Bool, true, false, not, ◌==◌, ◌||◌, ◌&&◌, List, Option, Some, None, if◌then◌else◌, codes}
-use Rattle.std.specs.List.{list_all}
+use Rattle.std.specs.Prelude.{◌≡◌, ℕ, ℤ, Bool, true, false, not, ◌==◌, ◌||◌, List, Option, Some, None, if◌then◌else◌, codes}
+use Rattle.std.specs.List.{list_any}
 use Rattle.std.specs.Ordering.{int_eq}
 use Rattle.std.specs.Str.{byte, bytes_eq}
 use Rattle.mn_lexer.specs.Terminals.{Terminal, word, number, head, mark}
@@ -9,7 +9,7 @@ use Rattle.mn_lexer.specs.declared.marks.Mark.TheVariants as marks
 
 -- a word that is a name: it has no `-`, and isn't `_` alone
 abbrev pub is_name : List ℕ → Bool
-is_name bs = list_all (λ b. not (b == byte "-")) bs && not (bytes_eq bs (codes "_"))
+is_name bs = not (list_any (λ b. b == byte "-") bs || bytes_eq bs (codes "_"))
 
 -- the name that the token is, if it is one
 abbrev pub name_of : Terminal → Option (List ℕ)

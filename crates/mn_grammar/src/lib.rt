@@ -15,7 +15,10 @@ ghost use Rattle.mn_grammar.specs.Reading.{renamed};
 ghost use Rattle.mn_grammar.specs.declared.Stop.TheVariants.{NoMemory};
 ghost use Rattle.mn_grammar.specs.Laws.{OneRefusal, NoTextRefused, LawfulIsExact, SomeVerdict, OneVerdict};
 
+mod site;
+
 use mn_lexer::LexFault;
+pub use site::{Site, is_known_head, is_name, kind_at};
 use std::alloc::{AllocError, AllocFailed};
 
 /// The limits that a list of tokens can pass.

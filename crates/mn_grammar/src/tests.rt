@@ -1,6 +1,9 @@
-// What a fault is called at the end of a list.
-use crate::{Fault, Kind, Limit, lawful_is_exact, one_refusal, one_verdict, renamed};
-use mn_lexer::LexFault;
+// What a fault is called, and which words are names.
+use crate::{
+    Fault, Kind, Limit, Site, is_known_head, is_name, kind_at, lawful_is_exact, one_refusal,
+    one_verdict, renamed,
+};
+use mn_lexer::{LexFault, TokenKind};
 
 #[test]
 fn ends_are_named(rt: HostRuntime) {
@@ -23,6 +26,31 @@ fn ends_are_named(rt: HostRuntime) {
     ] {
         let fault = renamed(Fault { left, kind }, stop);
         assert_eq!(rt; fault, Fault { left, kind: named });
+    }
+}
+
+#[test]
+fn words_are_told(rt: HostRuntime) {
+    for (word, named) in [("x", true), ("__", true), ("_", false), ("a-b", false)] {
+        assert_eq!(rt; is_name(word.as_bytes()), named, "{word}");
+    }
+    assert!(rt; is_known_head(b"**SEARCH**".as_slice()));
+    assert!(rt; !is_known_head(b"**FIND**".as_slice()));
+}
+
+#[test]
+fn refusals_have_kinds(rt: HostRuntime) {
+    for (site, token, text, kind) in [
+        (Site::Fixed, TokenKind::Word, "foo", Kind::Unsupported),
+        (Site::Fixed, TokenKind::Head, "**EOF**", Kind::Unsupported),
+        (Site::Fixed, TokenKind::Mark, ",", Kind::Syntax),
+        (Site::Mixed, TokenKind::Head, "**FOO**", Kind::Unsupported),
+        (Site::Mixed, TokenKind::Head, "**EOF**", Kind::Syntax),
+        (Site::Mixed, TokenKind::Number, "3", Kind::Syntax),
+        (Site::Free, TokenKind::Head, "**FOO**", Kind::Syntax),
+        (Site::MarksOnly, TokenKind::Word, "foo", Kind::Syntax),
+    ] {
+        assert_eq!(rt; kind_at(site, token, text.as_bytes()), kind, "{text}");
     }
 }
 
