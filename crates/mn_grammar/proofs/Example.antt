@@ -122,10 +122,16 @@ step_law seen = Lawful-valued (turn_of seen) (leaf Mixed token value (judge seen
 abbrev next : List (List ℕ) → Name → List (List ℕ)
 next seen n = n.bytes ∷ seen
 
-abbrev looped : List (List ℕ) → Spec (Turns Name (Unit {0})) (List (List ℕ))
-looped seen = turns a_turn next (λ s u. s) tt seen
+abbrev Rows : List (List ℕ) → Type 0
+Rows = Turns (λ s. Name) (λ s. Unit {0}) next
 
-is_loop : Loop a_turn next (λ s u. s) tt
+abbrev no_rows : (seen : List (List ℕ)) → Rows seen
+no_rows seen = last tt
+
+abbrev looped : (seen : List (List ℕ)) → Spec (Rows seen) (List (List ℕ))
+looped seen = turns a_turn next (λ s u. s) no_rows seen
+
+is_loop : Loop a_turn next (λ s u. s) no_rows
 is_loop = record {
   goes = λ s n. refl;
   ends = λ s u. refl;
@@ -135,50 +141,50 @@ is_loop = record {
   fits_last = λ s u. tt;
 }
 
-abbrev names_onto : Turns Name (Unit {0}) → List Name
-names_onto (last u) = []
-names_onto (more n gs) = n ∷ names_onto gs
+abbrev names_onto : (seen : List (List ℕ)) → Rows seen → List Name
+names_onto seen (last u) = []
+names_onto seen (more n gs) = n ∷ names_onto (next seen n) gs
 
-abbrev names_back : List Name → Turns Name (Unit {0})
-names_back [] = last tt
-names_back (n ∷ ns) = more n (names_back ns)
+abbrev names_back : List Name → (seen : List (List ℕ)) → Rows seen
+names_back [] seen = last tt
+names_back (n ∷ ns) seen = more n (names_back ns (next seen n))
 
-names_again : (ns : List Name) → names_onto (names_back ns) ≡ ns
-names_again [] = refl
-names_again (n ∷ ns) = ap (λ l. n ∷ l) (names_again ns)
+names_again : (ns : List Name) (seen : List (List ℕ)) → names_onto seen (names_back ns seen) ≡ ns
+names_again [] seen = refl
+names_again (n ∷ ns) seen = ap (λ l. n ∷ l) (names_again ns (next seen n))
 
-names_spell : (gs : Turns Name (Unit {0})) (seen : List (List ℕ)) → spell_names (names_onto gs) ≡ (looped seen).spell gs
-names_spell (last u) seen = refl
-names_spell (more n gs) seen = ap (λ l. word n.bytes ∷ l) (names_spell gs (n.bytes ∷ seen))
+names_spell : (seen : List (List ℕ)) (gs : Rows seen) → spell_names (names_onto seen gs) ≡ (looped seen).spell gs
+names_spell seen (last u) = refl
+names_spell seen (more n gs) = ap (λ l. word n.bytes ∷ l) (names_spell (next seen n) gs)
 
-names_breaks : (gs : Turns Name (Unit {0})) (seen : List (List ℕ)) → first (breaks_names (names_onto gs) seen) ≡ first ((looped seen).breaks gs)
-names_breaks (last u) seen = refl
-names_breaks (more n gs) seen =
+names_breaks : (seen : List (List ℕ)) (gs : Rows seen) → first (breaks_names (names_onto seen gs) seen) ≡ first ((looped seen).breaks gs)
+names_breaks seen (last u) = refl
+names_breaks seen (more n gs) =
     alike_append (on (once seen n.bytes) ++ on (room seen)) (on (judge seen (inl n.bytes))) _ _
     (on_when (has_bytes seen n.bytes) (leb 2 (length seen)) kinds.Name (kinds.Limit limits.Variables) (omega arith))
-    (alike_behind 1 (breaks_names (names_onto gs) (n.bytes ∷ seen)) ((looped (n.bytes ∷ seen)).breaks gs) (names_breaks gs (n.bytes ∷ seen)))
+    (alike_behind 1 (breaks_names (names_onto (next seen n) gs) (next seen n)) ((looped (next seen n)).breaks gs) (names_breaks (next seen n) gs))
 
-names_value : (gs : Turns Name (Unit {0})) (seen : List (List ℕ)) → value_names (names_onto gs) seen ≡ (looped seen).value gs
-names_value (last u) seen = refl
-names_value (more n gs) seen = names_value gs (n.bytes ∷ seen)
+names_value : (seen : List (List ℕ)) (gs : Rows seen) → value_names (names_onto seen gs) seen ≡ (looped seen).value gs
+names_value seen (last u) = refl
+names_value seen (more n gs) = names_value (next seen n) gs
 
-names_blocks : (gs : Turns Name (Unit {0})) (seen : List (List ℕ)) (t : Terminal) → false ≡ (looped seen).blocks gs t
-names_blocks (last u) seen t = refl
-names_blocks (more n gs) seen t = names_blocks gs (n.bytes ∷ seen) t
+names_blocks : (seen : List (List ℕ)) (gs : Rows seen) (t : Terminal) → false ≡ (looped seen).blocks gs t
+names_blocks seen (last u) t = refl
+names_blocks seen (more n gs) t = names_blocks (next seen n) gs t
 
 names_law : (seen : List (List ℕ)) → Lawful (names_spec seen) (loop step seen)
 names_law seen = Lawful-view (looped seen) (names_spec seen)
     (record {
-      onto = names_onto;
-      back = names_back;
-      again = names_again;
-      spell = λ gs. names_spell gs seen;
-      breaks = λ gs. names_breaks gs seen;
-      value = λ gs. names_value gs seen;
-      blocks = λ gs t. names_blocks gs seen t;
+      onto = names_onto seen;
+      back = λ ns. names_back ns seen;
+      again = λ ns. names_again ns seen;
+      spell = names_spell seen;
+      breaks = names_breaks seen;
+      value = names_value seen;
+      blocks = names_blocks seen;
       start = refl;
     })
-    (loop step seen) (Lawful-loop a_turn next (λ s u. s) tt is_loop step step_law seen)
+    (loop step seen) (Lawful-loop a_turn next (λ s u. s) no_rows is_loop step step_law seen)
 
 -- 7. The text: the word, and the names behind it
 text_law : Lawful text_spec read_text

@@ -140,7 +140,10 @@ module _ {A S V R : Type 0} (shut : Mark) (j : Judge A S V) (blocks : A → Term
     turn_grows : (a : A) → j.spell a ++ mark Comma ∷ [] ≡ [] → ⊥
     turn_grows a none = are.solid a (both_nil (j.spell a) (mark Comma ∷ []) none).0
 
-    is_loop : Loop turn next_of result_of some
+    abbrev some_turns : (s : S) → Turns (λ s. A) (λ s. A) next_of s
+    some_turns s = last some
+
+    is_loop : Loop turn next_of result_of some_turns
     is_loop = record {
       goes = λ s a. refl;
       ends = λ s a. refl;
@@ -150,55 +153,55 @@ module _ {A S V R : Type 0} (shut : Mark) (j : Judge A S V) (blocks : A → Term
       fits_last = λ s a. Fits-nothing start;
     }
 
-    abbrev onto : Turns A A → Items A
-    onto (last a) = final a
-    onto (more a gs) = also a (onto gs)
+    abbrev onto : (s : S) → Turns (λ s. A) (λ s. A) next_of s → Items A
+    onto s (last a) = final a
+    onto s (more a gs) = also a (onto (next_of s a) gs)
 
-    abbrev back : Items A → Turns A A
-    back (final a) = last a
-    back (also a l) = more a (back l)
+    abbrev back : (l : Items A) (s : S) → Turns (λ s. A) (λ s. A) next_of s
+    back (final a) s = last a
+    back (also a l) s = more a (back l (next_of s a))
 
-    again : (l : Items A) → onto (back l) ≡ l
-    again (final a) = refl
-    again (also a l) = ap (λ r. also a r) (again l)
+    again : (l : Items A) (s : S) → onto s (back l s) ≡ l
+    again (final a) s = refl
+    again (also a l) s = ap (λ r. also a r) (again l (next_of s a))
 
-    abbrev looped : S → Spec (Turns A A) R
-    looped s = turns turn next_of result_of some s
+    abbrev looped : (s : S) → Spec (Turns (λ s. A) (λ s. A) next_of s) R
+    looped s = turns turn next_of result_of some_turns s
 
-    view_spell : (gs : Turns A A) (s : S) → spell_items shut j.spell (onto gs) ≡ (looped s).spell gs
-    view_spell (last a) s = refl
-    view_spell (more a gs) s =
-        ap (λ l. j.spell a ++ mark Comma ∷ l) (view_spell gs (next_of s a))
+    view_spell : (s : S) (gs : Turns (λ s. A) (λ s. A) next_of s) → spell_items shut j.spell (onto s gs) ≡ (looped s).spell gs
+    view_spell s (last a) = refl
+    view_spell s (more a gs) =
+        ap (λ l. j.spell a ++ mark Comma ∷ l) (view_spell (next_of s a) gs)
         ∙ sym (append_assoc (j.spell a) (mark Comma ∷ []) ((looped (next_of s a)).spell gs))
 
-    view_breaks : (gs : Turns A A) (s : S) → breaks_items j (onto gs) s ≡ (looped s).breaks gs
-    view_breaks (last a) s = refl
-    view_breaks (more a gs) s =
+    view_breaks : (s : S) (gs : Turns (λ s. A) (λ s. A) next_of s) → breaks_items j (onto s gs) s ≡ (looped s).breaks gs
+    view_breaks s (last a) = refl
+    view_breaks s (more a gs) =
         let n = length (j.spell a) in
         let here = on (j.ends.comma s (j.value s a)) in
-        let rest = breaks_items j (onto gs) (next_of s a) in
+        let rest = breaks_items j (onto (next_of s a) gs) (next_of s a) in
         let size : n + 1 ≡ length (j.spell a ++ mark Comma ∷ []) = sym (length-append (j.spell a) (mark Comma ∷ [])) in
         ap (λ l. j.breaks s a ++ l) (behind_append n here (behind 1 rest) ∙ ap (λ l. behind n here ++ l) (behind_behind n 1 rest))
         ∙ sym (append_assoc (j.breaks s a) (behind n here) (behind (n + 1) rest))
-        ∙ ap₂ (λ m l. (j.breaks s a ++ behind n here) ++ behind m l) size (view_breaks gs (next_of s a))
+        ∙ ap₂ (λ m l. (j.breaks s a ++ behind n here) ++ behind m l) size (view_breaks (next_of s a) gs)
 
-    view_value : (gs : Turns A A) (s : S) → value_items j result (onto gs) s ≡ (looped s).value gs
-    view_value (last a) s = refl
-    view_value (more a gs) s = view_value gs (next_of s a)
+    view_value : (s : S) (gs : Turns (λ s. A) (λ s. A) next_of s) → value_items j result (onto s gs) s ≡ (looped s).value gs
+    view_value s (last a) = refl
+    view_value s (more a gs) = view_value (next_of s a) gs
 
-    view_blocks : (gs : Turns A A) (s : S) (t : Terminal) → false ≡ (looped s).blocks gs t
-    view_blocks (last a) s t = refl
-    view_blocks (more a gs) s t = view_blocks gs (next_of s a) t
+    view_blocks : (s : S) (gs : Turns (λ s. A) (λ s. A) next_of s) (t : Terminal) → false ≡ (looped s).blocks gs t
+    view_blocks s (last a) t = refl
+    view_blocks s (more a gs) t = view_blocks (next_of s a) gs t
 
     view : (s : S) → IsView (looped s) (items_spec s)
     view s = record {
-      onto = onto;
-      back = back;
-      again = again;
-      spell = λ gs. view_spell gs s;
-      breaks = λ gs. ap first (view_breaks gs s);
-      value = λ gs. view_value gs s;
-      blocks = λ gs t. view_blocks gs s t;
+      onto = onto s;
+      back = λ l. back l s;
+      again = λ l. again l s;
+      spell = view_spell s;
+      breaks = λ gs. ap first (view_breaks s gs);
+      value = view_value s;
+      blocks = view_blocks s;
       start = refl;
     }
 
@@ -218,13 +221,13 @@ module _ {A S V R : Type 0} (shut : Mark) (j : Judge A S V) (blocks : A → Term
       unfolding items_at
       Lawful-items s =
           Lawful-view (looped s) (items_spec s) (view s) (loop (turn_at shut j.ends result read) s)
-          (Lawful-loop turn next_of result_of some is_loop (turn_at shut j.ends result read) turn_law s)
+          (Lawful-loop turn next_of result_of some_turns is_loop (turn_at shut j.ends result read) turn_law s)
 
       -- what a list answers, by what its entry and the end behind it do
       pub entry_fails : (s : S) (ts : List Terminal) (e : Fault) → read s ts ≡ Err e → items_at shut j.ends result read s ts ≡ Err e
       unfolding items_at
       entry_fails s ts e same =
-          turn_fails turn next_of result_of some is_loop (turn_at shut j.ends result read) turn_law s ts e
+          turn_fails turn next_of result_of some_turns is_loop (turn_at shut j.ends result read) turn_law s ts e
           (ap (λ r. go_on r (λ v. end_at shut (j.ends.comma s v) (j.ends.close s v) (j.ends.next s v) (result s v))) same)
 
       module _ (s : S) (ts : List Terminal) (v : V) (rest : List Terminal) (entry_is : read s ts ≡ Ok (v, rest)) where
@@ -233,15 +236,15 @@ module _ {A S V R : Type 0} (shut : Mark) (j : Judge A S V) (blocks : A → Term
 
         pub end_fails : (e : Fault) → end_at shut (j.ends.comma s v) (j.ends.close s v) (j.ends.next s v) (result s v) rest ≡ Err e → items_at shut j.ends result read s ts ≡ Err e
         unfolding items_at
-        end_fails e same = turn_fails turn next_of result_of some is_loop (turn_at shut j.ends result read) turn_law s ts e (end_is (Err e) same)
+        end_fails e same = turn_fails turn next_of result_of some_turns is_loop (turn_at shut j.ends result read) turn_law s ts e (end_is (Err e) same)
 
         pub list_goes_on : (z : S) (left : List Terminal) → end_at shut (j.ends.comma s v) (j.ends.close s v) (j.ends.next s v) (result s v) rest ≡ Ok (goes_on z, left) → items_at shut j.ends result read s ts ≡ items_at shut j.ends result read z left
         unfolding items_at
-        list_goes_on z left same = turn_goes_on turn next_of result_of some is_loop (turn_at shut j.ends result read) turn_law s ts z left (end_is (Ok (goes_on z, left)) same)
+        list_goes_on z left same = turn_goes_on turn next_of result_of some_turns is_loop (turn_at shut j.ends result read) turn_law s ts z left (end_is (Ok (goes_on z, left)) same)
 
         pub list_ends : (r : R) (left : List Terminal) → end_at shut (j.ends.comma s v) (j.ends.close s v) (j.ends.next s v) (result s v) rest ≡ Ok (is_done r, left) → items_at shut j.ends result read s ts ≡ Ok (r, left)
         unfolding items_at
-        list_ends r left same = turn_ends turn next_of result_of some is_loop (turn_at shut j.ends result read) turn_law s ts r left (end_is (Ok (is_done r, left)) same)
+        list_ends r left same = turn_ends turn next_of result_of some_turns is_loop (turn_at shut j.ends result read) turn_law s ts r left (end_is (Ok (is_done r, left)) same)
 
 -- the front of two lists, where the first isn't empty
 front_of : (l m : List Terminal) (t : Terminal) (q : List Terminal) → (l ≡ [] → ⊥) → l ++ m ≡ t ∷ q → (r : List Terminal) × (l ≡ t ∷ r)

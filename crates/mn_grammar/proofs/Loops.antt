@@ -12,71 +12,73 @@ use Rattle.mn_grammar.proofs.Joins.{joined, Join, first_pair, complete_pair, Sai
 use Rattle.mn_grammar.proofs.Views.{IsView, Said-view}
 use Rattle.mn_grammar.specs.declared.Fault.{Fault}
 
--- the turns of a loop: those that go on, and the last
-pub data Turns (G E : Type 0) : Type 0 where
-  last : E → Turns G E
-  more : G → Turns G E → Turns G E
+-- The turns of a loop from a state on: those that go on, to the next state, and the last. Which there are may hang on
+-- the state.
+pub data Turns {S : Type 0} (G E : S → Type 0) (next : (s : S) → G s → S) : S → Type 0 where
+  last : {s : S} → E s → Turns G E next s
+  more : {s : S} (g : G s) → Turns G E next (next s g) → Turns G E next s
 
--- `turn` are the trees of a turn in a state, `next` is the state behind one that goes on, `result` the value of the last.
-module _ {G E S V : Type 0} (turn : S → Spec (G ⊎ E) (Turn S V)) (next : S → G → S) (result : S → E → V) (some : E) where
-  abbrev pub spell_turns : Turns G E → S → List Terminal
-  spell_turns (last e) s = (turn s).spell (inr e)
-  spell_turns (more g gs) s = (turn s).spell (inl g) ++ spell_turns gs (next s g)
+-- `turn` are the trees of a turn in a state, `next` is the state behind one that goes on, `result` the value of the
+-- last, `some` some turns.
+module _ {S V : Type 0} {G E : S → Type 0} (turn : (s : S) → Spec (G s ⊎ E s) (Turn S V)) (next : (s : S) → G s → S) (result : (s : S) → E s → V) (some : (s : S) → Turns G E next s) where
+  abbrev pub spell_turns : (s : S) → Turns G E next s → List Terminal
+  spell_turns s (last e) = (turn s).spell (inr e)
+  spell_turns s (more g gs) = (turn s).spell (inl g) ++ spell_turns (next s g) gs
 
-  abbrev pub breaks_turns : Turns G E → S → List Break
-  breaks_turns (last e) s = (turn s).breaks (inr e)
-  breaks_turns (more g gs) s = (turn s).breaks (inl g) ++ behind (length ((turn s).spell (inl g))) (breaks_turns gs (next s g))
+  abbrev pub breaks_turns : (s : S) → Turns G E next s → List Break
+  breaks_turns s (last e) = (turn s).breaks (inr e)
+  breaks_turns s (more g gs) = (turn s).breaks (inl g) ++ behind (length ((turn s).spell (inl g))) (breaks_turns (next s g) gs)
 
-  abbrev pub value_turns : Turns G E → S → V
-  value_turns (last e) s = result s e
-  value_turns (more g gs) s = value_turns gs (next s g)
+  abbrev pub value_turns : (s : S) → Turns G E next s → V
+  value_turns s (last e) = result s e
+  value_turns s (more g gs) = value_turns (next s g) gs
 
-  abbrev pub blocks_turns : Turns G E → S → Terminal → Bool
-  blocks_turns (last e) s t = (turn s).blocks (inr e) t
-  blocks_turns (more g gs) s t = ((turn s).blocks (inl g) t && is_nil (spell_turns gs (next s g))) || blocks_turns gs (next s g) t
+  abbrev pub blocks_turns : (s : S) → Turns G E next s → Terminal → Bool
+  blocks_turns s (last e) t = (turn s).blocks (inr e) t
+  blocks_turns s (more g gs) t = ((turn s).blocks (inl g) t && is_nil (spell_turns (next s g) gs)) || blocks_turns (next s g) gs t
 
-  abbrev pub turns : S → Spec (Turns G E) V
+  abbrev pub turns : (s : S) → Spec (Turns G E next s) V
   turns s = record {
-    spell = λ gs. spell_turns gs s;
-    breaks = λ gs. breaks_turns gs s;
-    value = λ gs. value_turns gs s;
-    blocks = λ gs. blocks_turns gs s;
+    spell = spell_turns s;
+    breaks = breaks_turns s;
+    value = value_turns s;
+    blocks = blocks_turns s;
     start = (turn s).start;
-    any = last some;
+    any = some s;
   }
 
   -- What a loop has to show: a turn's value says whether it goes on; one that goes on has tokens, and what follows
   -- doesn't begin with what would go on with it; and what would go on with a turn fits the site behind it.
   pub record Loop : Type 0 where
-    pub goes : (s : S) (g : G) → (turn s).value (inl g) ≡ goes_on (next s g)
-    pub ends : (s : S) (e : E) → (turn s).value (inr e) ≡ is_done (result s e)
-    pub grows : (s : S) (g : G) → (turn s).spell (inl g) ≡ [] → ⊥
-    pub apart : (s : S) (g : G) (gs : Turns G E) (t : Terminal) (q : List Terminal) → spell_turns gs (next s g) ≡ t ∷ q → (turn s).blocks (inl g) t ≡ false
-    pub fits : (s : S) (g : G) → Fits (turn (next s g)).start ((turn s).blocks (inl g))
-    pub fits_last : (s : S) (e : E) → Fits (turn s).start ((turn s).blocks (inr e))
+    pub goes : (s : S) (g : G s) → (turn s).value (inl g) ≡ goes_on (next s g)
+    pub ends : (s : S) (e : E s) → (turn s).value (inr e) ≡ is_done (result s e)
+    pub grows : (s : S) (g : G s) → (turn s).spell (inl g) ≡ [] → ⊥
+    pub apart : (s : S) (g : G s) (gs : Turns G E next (next s g)) (t : Terminal) (q : List Terminal) → spell_turns (next s g) gs ≡ t ∷ q → (turn s).blocks (inl g) t ≡ false
+    pub fits : (s : S) (g : G s) → Fits (turn (next s g)).start ((turn s).blocks (inl g))
+    pub fits_last : (s : S) (e : E s) → Fits (turn s).start ((turn s).blocks (inr e))
 
-module _ {G E S V : Type 0} (turn : S → Spec (G ⊎ E) (Turn S V)) (next : S → G → S) (result : S → E → V) (some : E) (is : Loop turn next result some) where
-  abbrev spec : S → Spec (Turns G E) V
+module _ {S V : Type 0} {G E : S → Type 0} (turn : (s : S) → Spec (G s ⊎ E s) (Turn S V)) (next : (s : S) → G s → S) (result : (s : S) → E s → V) (some : (s : S) → Turns G E next s) (is : Loop turn next result some) where
+  abbrev spec : (s : S) → Spec (Turns G E next s) V
   spec s = turns turn next result some s
 
-  abbrev After : G ⊎ E → Type 0
-  After (inl g) = Turns G E
-  After (inr e) = Unit {0}
+  abbrev After : (s : S) → G s ⊎ E s → Type 0
+  After s (inl g) = Turns G E next (next s g)
+  After s (inr e) = Unit {0}
 
   -- what follows a turn
-  abbrev after : (s : S) (x : G ⊎ E) → Spec (After x) V
+  abbrev after : (s : S) (x : G s ⊎ E s) → Spec (After s x) V
   after s (inl g) = spec (next s g)
   after s (inr e) = nothing (turn s).start (result s e)
 
-  join_apart : (s : S) (x : G ⊎ E) (y : After x) (t : Terminal) (q : List Terminal) → (after s x).spell y ≡ t ∷ q → (turn s).blocks x t ≡ false
+  join_apart : (s : S) (x : G s ⊎ E s) (y : After s x) (t : Terminal) (q : List Terminal) → (after s x).spell y ≡ t ∷ q → (turn s).blocks x t ≡ false
   join_apart s (inl g) gs t q e = is.apart s g gs t q e
   join_apart s (inr e) u t q none = absurd cc
 
-  join_fits : (s : S) (x : G ⊎ E) → Fits (after s x).start ((turn s).blocks x)
+  join_fits : (s : S) (x : G s ⊎ E s) → Fits (after s x).start ((turn s).blocks x)
   join_fits s (inl g) = is.fits s g
   join_fits s (inr e) = is.fits_last s e
 
-  join_starts : (s : S) (x : G ⊎ E) → (turn s).spell x ≡ [] → (after s x).start ≡ (turn s).start
+  join_starts : (s : S) (x : G s ⊎ E s) → (turn s).spell x ≡ [] → (after s x).start ≡ (turn s).start
   join_starts s (inl g) none = absurd (is.grows s g none)
   join_starts s (inr e) none = refl
 
@@ -84,27 +86,27 @@ module _ {G E S V : Type 0} (turn : S → Spec (G ⊎ E) (Turn S V)) (next : S �
   join s = record { apart = join_apart s; fits = join_fits s; starts = join_starts s }
 
   -- a turn and what follows it are turns
-  abbrev onto : (x : G ⊎ E) → After x → Turns G E
-  onto (inl g) gs = more g gs
-  onto (inr e) u = last e
+  abbrev onto : (s : S) (x : G s ⊎ E s) → After s x → Turns G E next s
+  onto s (inl g) gs = more g gs
+  onto s (inr e) u = last e
 
-  abbrev back : Turns G E → (x : G ⊎ E) × After x
-  back (last e) = (inr e, tt)
-  back (more g gs) = (inl g, gs)
+  abbrev back : (s : S) → Turns G E next s → (x : G s ⊎ E s) × After s x
+  back s (last e) = (inr e, tt)
+  back s (more g gs) = (inl g, gs)
 
-  again : (gs : Turns G E) → onto (back gs).0 (back gs).1 ≡ gs
-  again (last e) = refl
-  again (more g gs) = refl
+  again : (s : S) (gs : Turns G E next s) → onto s (back s gs).0 (back s gs).1 ≡ gs
+  again s (last e) = refl
+  again s (more g gs) = refl
 
-  view_spell : (s : S) (x : G ⊎ E) (y : After x) → (spec s).spell (onto x y) ≡ (joined (turn s) (after s)).spell (x, y)
+  view_spell : (s : S) (x : G s ⊎ E s) (y : After s x) → (spec s).spell (onto s x y) ≡ (joined (turn s) (after s)).spell (x, y)
   view_spell s (inl g) gs = refl
   view_spell s (inr e) u = sym (append-nil _)
 
-  view_breaks : (s : S) (x : G ⊎ E) (y : After x) → (spec s).breaks (onto x y) ≡ (joined (turn s) (after s)).breaks (x, y)
+  view_breaks : (s : S) (x : G s ⊎ E s) (y : After s x) → (spec s).breaks (onto s x y) ≡ (joined (turn s) (after s)).breaks (x, y)
   view_breaks s (inl g) gs = refl
   view_breaks s (inr e) u = sym (append-nil _)
 
-  view_value : (s : S) (x : G ⊎ E) (y : After x) → (spec s).value (onto x y) ≡ (joined (turn s) (after s)).value (x, y)
+  view_value : (s : S) (x : G s ⊎ E s) (y : After s x) → (spec s).value (onto s x y) ≡ (joined (turn s) (after s)).value (x, y)
   view_value s (inl g) gs = refl
   view_value s (inr e) u = refl
 
@@ -112,15 +114,15 @@ module _ {G E S V : Type 0} (turn : S → Spec (G ⊎ E) (Turn S V)) (next : S �
   or_nothing true = refl
   or_nothing false = refl
 
-  view_blocks : (s : S) (x : G ⊎ E) (y : After x) (t : Terminal) → (spec s).blocks (onto x y) t ≡ (joined (turn s) (after s)).blocks (x, y) t
+  view_blocks : (s : S) (x : G s ⊎ E s) (y : After s x) (t : Terminal) → (spec s).blocks (onto s x y) t ≡ (joined (turn s) (after s)).blocks (x, y) t
   view_blocks s (inl g) gs t = refl
   view_blocks s (inr e) u t = or_nothing ((turn s).blocks (inr e) t)
 
   view : (s : S) → IsView (joined (turn s) (after s)) (spec s)
   view s = record {
-    onto = λ p. onto p.0 p.1;
-    back = back;
-    again = again;
+    onto = λ p. onto s p.0 p.1;
+    back = back s;
+    again = again s;
     spell = λ p. view_spell s p.0 p.1;
     breaks = λ p. ap first (view_breaks s p.0 p.1);
     value = λ p. view_value s p.0 p.1;
@@ -130,21 +132,21 @@ module _ {G E S V : Type 0} (turn : S → Spec (G ⊎ E) (Turn S V)) (next : S �
 
   module _ (sound : (s : S) → Sound (turn s)) where
     -- what is broken first is in a turn, and in order there
-    turns_first : (gs : Turns G E) (s : S) (k : Break) → first ((spec s).breaks gs) ≡ Some k → (is_condition k.1 ≡ true) × (k.0 < length ((spec s).spell gs))
-    turns_first (last e) s k f = ((sound s).kinds (inr e) k f, (sound s).within (inr e) k f)
-    turns_first (more g gs) s k f = first_pair (turn s) (after s) (join s) (sound s) (inl g) gs k (first ((turn s).breaks (inl g))) refl f (turns_first gs (next s g))
+    turns_first : (s : S) (gs : Turns G E next s) (k : Break) → first ((spec s).breaks gs) ≡ Some k → (is_condition k.1 ≡ true) × (k.0 < length ((spec s).spell gs))
+    turns_first s (last e) k f = ((sound s).kinds (inr e) k f, (sound s).within (inr e) k f)
+    turns_first s (more g gs) k f = first_pair (turn s) (after s) (join s) (sound s) (inl g) gs k (first ((turn s).breaks (inl g))) refl f (turns_first (next s g) gs)
 
     -- a turn that begins so, as the first of some
-    turn_begins : (s : S) (p : List Terminal) (x : G ⊎ E) (q : List Terminal) → (turn s).spell x ≡ p ++ q → (gs : Turns G E) × (tail : List Terminal) × ((spec s).spell gs ≡ p ++ (q ++ tail))
-    turn_begins s p (inl g) q e = (more g (last some), (turn (next s g)).spell (inr some), ap (λ l. l ++ (turn (next s g)).spell (inr some)) e ∙ append_assoc p q _)
+    turn_begins : (s : S) (p : List Terminal) (x : G s ⊎ E s) (q : List Terminal) → (turn s).spell x ≡ p ++ q → (gs : Turns G E next s) × (tail : List Terminal) × ((spec s).spell gs ≡ p ++ (q ++ tail))
+    turn_begins s p (inl g) q e = (more g (some (next s g)), (spec (next s g)).spell (some (next s g)), ap (λ l. l ++ (spec (next s g)).spell (some (next s g))) e ∙ append_assoc p q _)
     turn_begins s p (inr z) q e = (last z, [], e ∙ ap (λ l. p ++ l) (sym (append-nil q)))
 
-    turns_extends : (gs : Turns G E) (s : S) (t : Terminal) → (spec s).blocks gs t ≡ true → (hs : Turns G E) × (q : List Terminal) × ((spec s).spell hs ≡ (spec s).spell gs ++ t ∷ q)
-    turns_extends (last e) s t blocks =
+    turns_extends : (s : S) (gs : Turns G E next s) (t : Terminal) → (spec s).blocks gs t ≡ true → (hs : Turns G E next s) × (q : List Terminal) × ((spec s).spell hs ≡ (spec s).spell gs ++ t ∷ q)
+    turns_extends s (last e) t blocks =
         let x = (sound s).extends (inr e) t blocks in
         let r = turn_begins s ((turn s).spell (inr e)) x.0 (t ∷ x.1) x.2 in
         (r.0, x.1 ++ r.1, r.2)
-    turns_extends (more g gs) s t blocks = ⊎_elim
+    turns_extends s (more g gs) t blocks = ⊎_elim
         (λ front.
         let both = and_parts _ _ front in
         let x = (sound s).extends (inl g) t both.0 in
@@ -152,21 +154,21 @@ module _ {G E S V : Type 0} (turn : S → Spec (G ⊎ E) (Turn S V)) (next : S �
         let none = nil_of ((spec (next s g)).spell gs) both.1 in
         (r.0, x.1 ++ r.1, r.2 ∙ ap (λ l. l ++ t ∷ (x.1 ++ r.1)) (sym (ap (λ l. (turn s).spell (inl g) ++ l) none ∙ append-nil ((turn s).spell (inl g))))))
         (λ later.
-        let r = turns_extends gs (next s g) t later in
+        let r = turns_extends (next s g) gs t later in
         (more g r.0, r.1, ap (λ l. (turn s).spell (inl g) ++ l) r.2 ∙ sym (append_assoc ((turn s).spell (inl g)) ((spec (next s g)).spell gs) (t ∷ r.1))))
         (or_cases _ _ blocks)
 
     -- the trees of a loop are in order, where those of its turns are
     pub Sound-loop : (s : S) → Sound (spec s)
     Sound-loop s = record {
-      kinds = λ gs k f. (turns_first gs s k f).0;
-      within = λ gs k f. (turns_first gs s k f).1;
-      extends = λ gs t blocks. turns_extends gs s t blocks;
+      kinds = λ gs k f. (turns_first s gs k f).0;
+      within = λ gs k f. (turns_first s gs k f).1;
+      extends = λ gs t blocks. turns_extends s gs t blocks;
     }
 
   module _ (step : S → Reader (Turn S V)) (law : (s : S) → Lawful (turn s) (step s)) where
     -- a turn that goes on leaves less
-    shorter_of : (s : S) (ts : List Terminal) (z : S) (rest : List Terminal) (x : G ⊎ E) → ts ≡ (turn s).spell x ++ rest → (turn s).value x ≡ goes_on z → length rest < length ts
+    shorter_of : (s : S) (ts : List Terminal) (z : S) (rest : List Terminal) (x : G s ⊎ E s) → ts ≡ (turn s).spell x ++ rest → (turn s).value x ≡ goes_on z → length rest < length ts
     shorter_of s ts z rest (inl g) parts means = some_left ((turn s).spell (inl g)) refl
       where
         some_left : (l : List Terminal) → (turn s).spell (inl g) ≡ l → length rest < length ts
@@ -207,7 +209,7 @@ module _ {G E S V : Type 0} (turn : S → Spec (G ⊎ E) (Turn S V)) (next : S �
             enough (length ts) (suc (length rest)) z rest less (omega arith)
 
     -- each row of turns is read, up to what is broken first
-    complete_last : (s : S) (e : E) (rest : List Terminal) → Lacks ((turn s).blocks (inr e)) rest → loop step s ((turn s).spell (inr e) ++ rest) ≡ answer_of (spec s) (last e) rest
+    complete_last : (s : S) (e : E s) (rest : List Terminal) → Lacks ((turn s).blocks (inr e)) rest → loop step s ((turn s).spell (inr e) ++ rest) ≡ answer_of (spec s) (last e) rest
     complete_last s e rest lacks =
         loop_turn s ((turn s).spell (inr e) ++ rest)
         ∙ ap (λ r. go_on r (turned (loop step))) ((law s).complete (inr e) rest lacks)
@@ -220,17 +222,17 @@ module _ {G E S V : Type 0} (turn : S → Spec (G ⊎ E) (Turn S V)) (next : S �
         at None f = ap (λ t. turned (loop step) t rest) (is.ends s e) ∙ ap (λ o. answered o n (result s e) rest) (sym f)
         at (Some k) f = ap (λ o. answered o n (result s e) rest) (sym f)
 
-    complete_loop : (gs : Turns G E) (s : S) (rest : List Terminal) → Lacks ((spec s).blocks gs) rest → loop step s ((spec s).spell gs ++ rest) ≡ answer_of (spec s) gs rest
-    complete_loop (last e) s rest lacks = complete_last s e rest lacks
-    complete_loop (more g gs) s rest lacks =
+    complete_loop : (s : S) (gs : Turns G E next s) (rest : List Terminal) → Lacks ((spec s).blocks gs) rest → loop step s ((spec s).spell gs ++ rest) ≡ answer_of (spec s) gs rest
+    complete_loop s (last e) rest lacks = complete_last s e rest lacks
+    complete_loop s (more g gs) rest lacks =
         loop_turn s ((spec s).spell (more g gs) ++ rest)
         ∙ complete_pair (turn s) (after s) (join s) (step s) (turned (loop step)) (inl g) gs rest (law s).sound
         ((law s).complete (inl g) ((spec (next s g)).spell gs ++ rest) (Lacks-joined (turn s) (after s) (join s) (inl g) gs rest lacks))
         (λ kept. ap (λ t. turned (loop step) t ((spec (next s g)).spell gs ++ rest)) (is.goes s g)
-        ∙ complete_loop gs (next s g) rest (Lacks-parts (λ t. (turn s).blocks (inl g) t && is_nil ((spec (next s g)).spell gs)) ((spec (next s g)).blocks gs) rest lacks).1)
+        ∙ complete_loop (next s g) gs rest (Lacks-parts (λ t. (turn s).blocks (inl g) t && is_nil ((spec (next s g)).spell gs)) ((spec (next s g)).blocks gs) rest lacks).1)
 
     -- what is said of a list, where it is said of each shorter one
-    said_after : (s : S) (ts : List Terminal) (v : Turn S V) (rest : List Terminal) → ((z : S) → length rest < length ts → Said (spec z) (loop step z) rest (loop step z rest)) → (x : G ⊎ E) → ts ≡ (turn s).spell x ++ rest → (turn s).value x ≡ v → Said (after s x) (turned (loop step) v) rest (turned (loop step) v rest)
+    said_after : (s : S) (ts : List Terminal) (v : Turn S V) (rest : List Terminal) → ((z : S) → length rest < length ts → Said (spec z) (loop step z) rest (loop step z rest)) → (x : G s ⊎ E s) → ts ≡ (turn s).spell x ++ rest → (turn s).value x ≡ v → Said (after s x) (turned (loop step) v) rest (turned (loop step) v rest)
     said_after s ts v rest shorter (inl g) parts means =
         let less = shorter_of s ts (next s g) rest (inl g) parts (is.goes s g) in
         subst (λ v. Said (spec (next s g)) (turned (loop step) v) rest (turned (loop step) v rest)) (sym (is.goes s g) ∙ means) (shorter (next s g) less)
@@ -250,7 +252,7 @@ module _ {G E S V : Type 0} (turn : S → Spec (G ⊎ E) (Turn S V)) (next : S �
     pub Lawful-loop : (s : S) → Lawful (spec s) (loop step s)
     Lawful-loop s = record {
       sound = Sound-loop (λ z. (law z).sound) s;
-      complete = λ gs rest lacks. complete_loop gs s rest lacks;
+      complete = λ gs rest lacks. complete_loop s gs rest lacks;
       said = λ ts. said_loop (suc (length ts)) s ts (omega arith);
     }
 
