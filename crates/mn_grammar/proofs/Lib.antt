@@ -13,6 +13,7 @@ pub mod Tables
 pub mod Words
 pub mod Classes
 pub mod Nested
+pub mod Sections
 pub mod Stops
 pub mod Exact
 pub mod Example

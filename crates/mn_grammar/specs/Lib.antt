@@ -7,3 +7,4 @@ pub mod Laws
 pub mod Lists
 pub mod Rows
 pub mod Gives
+pub mod Bodies
