@@ -1,0 +1,10 @@
+pub mod Tokens
+pub mod Kinds
+pub mod Places
+pub mod Reading
+pub mod Lawful
+pub mod Laws
+pub mod Lists
+pub mod Rows
+pub mod Gives
+pub mod Bodies
