@@ -114,9 +114,20 @@ value_of values (Var v) = values (number_of v)
 value_of values (Const k) = k
 value_of values (Not v) = pos 1 -ℤ values (number_of v)
 
+-- the values at places
+abbrev pub values_at : (ℕ → ℤ) → List Term → List ℤ
+values_at values v = map (value_of values) v
+
 -- the constraint holds where `values` tells the value of each variable
 abbrev pub HoldsOver : List Tuples → (ℕ → ℤ) → Con → Type 0
 HoldsOver lists values c = Meets lists c (map (value_of values) (places c))
+
+-- some of the constraints hold there, and each of them does
+abbrev pub SomeHolds : List Tuples → (ℕ → ℤ) → Cons → Type 0
+SomeHolds lists values cs = SomeMeet lists cs (values_at values (places_of cs))
+
+abbrev pub EachHolds : List Tuples → (ℕ → ℤ) → Cons → Type 0
+EachHolds lists values cs = EachMeets lists cs (values_at values (places_of cs))
 
 -- the constraint holds under an assignment, which has the value of each variable at its number
 abbrev pub Holds : List Tuples → List ℤ → Con → Type 0

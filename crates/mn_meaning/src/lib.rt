@@ -7,9 +7,19 @@
 //! The crate stands on `mn_model`.
 #![tactic(auto)]
 
+mod counts;
 mod laws;
+mod meaning;
+mod orders;
+mod sets;
+mod sums;
+#[cfg(test)]
+mod tests;
+mod values;
 
 pub use laws::{
     assignments_are_all, lawful_problems_are_fit, negations_are_meant, negations_hold_where_not,
     records_are_owed, search_order_is_whole, solutions_are_those_that_hold, without_an_order,
 };
+pub use meaning::{checks, holds, holds_over};
+pub use values::Values;
