@@ -18,3 +18,4 @@ pub mod Stops
 pub mod Exact
 pub mod Example
 pub mod ExampleForms
+pub mod ExampleSections

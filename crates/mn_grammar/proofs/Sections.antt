@@ -1,17 +1,17 @@
 -- Items one behind another, up to a token that ends them.
-use Rattle.std.proofs.Common.{◌≡◌, ◌⊎◌, Bool, true, false, ◌||◌, ◌&&◌, List, [], ◌∷◌, ◌++◌, length, Option, Some, None, refl, sym, ap, ◌∙◌, subst, inl, inr, append-nil}
+use Rattle.std.proofs.Common.{◌≡◌, ◌⊎◌, Bool, true, false, ◌||◌, ◌&&◌, List, [], ◌∷◌, ◌++◌, Option, refl, sym, ap, subst, inl, inr, append-nil}
 use Rattle.mn_lexer.specs.Terminals.{Terminal}
 use Rattle.mn_grammar.specs.Places.{Break, on, behind}
-use Rattle.mn_grammar.specs.Reading.{Reader, Site, Turn, goes_on, is_done, then_read, ret, loop}
+use Rattle.mn_grammar.specs.Reading.{Reader, Site, Turn, goes_on, is_done, then_read, ret}
 use Rattle.mn_grammar.specs.Bodies.{item_at, body_at}
 use Rattle.mn_grammar.specs.Lawful.{Spec, Fits, first, Lawful}
-use Rattle.mn_grammar.proofs.Sites.{Fits-nothing}
+use Rattle.mn_grammar.proofs.Sites.{is_nil, Fits-nothing}
 use Rattle.mn_grammar.proofs.Leaves.{leaf, nothing, Lawful-ret}
 use Rattle.mn_grammar.proofs.Classes.{either_value}
 use Rattle.mn_grammar.proofs.Joins.{joined}
 use Rattle.mn_grammar.proofs.Steps.{valued, Lawful-valued, Lawful-leaf_then}
 use Rattle.mn_grammar.proofs.Views.{IsView, Lawful-view}
-use Rattle.mn_grammar.proofs.Loops.{Turns, last, more, spell_turns, turns, Loop, Lawful-loop}
+use Rattle.mn_grammar.proofs.Loops.{Turns, last, more, turns, Loop, Lawful-loop}
 use Rattle.mn_grammar.specs.declared.Kind.{Kind}
 
 -- A are the first tokens of items and W what they stand for, H the tokens that end them; `judge` the condition on each
@@ -105,6 +105,25 @@ module _ {S A H W V : Type 0} {Y : A → Type 0} (site : Site) (token : A ⊎ H 
     start = refl;
   }
 
+  -- a body has tokens, and nothing goes on with it, since it ends with its last token
+  pub body_solid : (s : S) (gs : Turns (λ z. (a : A) × Y a) (λ z. H) after_item s) → (body_spec s).spell gs ≡ [] → ⊥
+  body_solid s (last h) e = cc
+  body_solid s (more p gs) e = cc
+
+  solid_nil : (l : List Terminal) → (l ≡ [] → ⊥) → is_nil l ≡ false
+  solid_nil [] some = absurd (some refl)
+  solid_nil (t ∷ l) some = refl
+
+  or_both : (b c d : Bool) → c ≡ false → d ≡ false → ((b && c) || d) ≡ false
+  or_both true c d e f = rw (e, f)
+  or_both false c d e f = f
+
+  pub body_blocks : (s : S) (gs : Turns (λ z. (a : A) × Y a) (λ z. H) after_item s) (t : Terminal) → (body_spec s).blocks gs t ≡ false
+  body_blocks s (last h) t = refl
+  body_blocks s (more p gs) t =
+      or_both (blocks_item s (inl p) t) (is_nil ((body_spec (after_item s p)).spell gs)) _
+      (solid_nil ((body_spec (after_item s p)).spell gs) (body_solid (after_item s p) gs)) (body_blocks (after_item s p) gs t)
+
   -- What a body has to show: no first token, nor one that ends the items, goes on with an item, and what does fits the
   -- site.
   pub record Body : Type 0 where
@@ -137,5 +156,58 @@ module _ {S A H W V : Type 0} {Y : A → Type 0} (site : Site) (token : A ⊎ H 
       Lawful-body s =
           Lawful-loop one_item after_item result at_end is_loop (λ z. then_read (read z) (item_at rest result z))
           (λ z. Lawful-view (joined (firsts z) (following z)) (one_item z) (view z) (then_read (read z) (item_at rest result z))
-              (Lawful-leaf_then site token (either_value value (λ h. h)) (judge z) (inr some) (read z) (following z) (item_at rest result z) (law z) (following_law z)))
+          (Lawful-leaf_then site token (either_value value (λ h. h)) (judge z) (inr some) (read z) (following z) (item_at rest result z) (law z) (following_law z)))
           s
+
+-- In a loop whose turns hang on the state: where each turn goes on, and where it is the last.
+module _ {X S V : Type 0} (s : Spec X S) where
+  abbrev pub going : Spec (X ⊎ ⊥) (Turn S V)
+  going = record {
+    spell = elim [ inl x ↦ s.spell x | inr e ↦ absurd e ];
+    breaks = elim [ inl x ↦ s.breaks x | inr e ↦ absurd e ];
+    value = elim [ inl x ↦ goes_on (s.value x) | inr e ↦ absurd e ];
+    blocks = elim [ inl x ↦ s.blocks x | inr e ↦ absurd e ];
+    start = s.start;
+    any = inl s.any;
+  }
+
+  pub Lawful-going : (read : Reader S) → Lawful s read → Lawful going (then_read read (λ z. ret (goes_on z)))
+  Lawful-going read law =
+      Lawful-view (valued (λ z. goes_on z) s) going
+      (record {
+        onto = λ x. inl x;
+        back = elim [ inl x ↦ x | inr e ↦ absurd e ];
+        again = elim [ inl x ↦ refl | inr e ↦ absurd e ];
+        spell = λ x. refl;
+        breaks = λ x. refl;
+        value = λ x. refl;
+        blocks = λ x t. refl;
+        start = refl;
+      })
+      (then_read read (λ z. ret (goes_on z))) (Lawful-valued (λ z. goes_on z) s read law)
+
+module _ {S V : Type 0} (site : Site) (v : V) where
+  abbrev pub ending : Spec (⊥ ⊎ Unit {0}) (Turn S V)
+  ending = record {
+    spell = λ x. [];
+    breaks = λ x. [];
+    value = λ x. is_done v;
+    blocks = λ x t. false;
+    start = site;
+    any = inr tt;
+  }
+
+  pub Lawful-ending : Lawful ending (ret (is_done v))
+  Lawful-ending =
+      Lawful-view (nothing site (is_done v)) ending
+      (record {
+        onto = λ u. inr u;
+        back = λ x. tt;
+        again = elim [ inl e ↦ absurd e | inr u ↦ refl ];
+        spell = λ u. refl;
+        breaks = λ u. refl;
+        value = λ u. refl;
+        blocks = λ u t. refl;
+        start = refl;
+      })
+      (ret (is_done v)) (Lawful-ret site (is_done v))

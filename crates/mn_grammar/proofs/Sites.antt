@@ -84,6 +84,9 @@ and_false : (x : Bool) → (x && false) ≡ false
 and_false true = refl
 and_false false = refl
 
+pub Fits-none : (s : Site) {g : Terminal → Bool} → ((t : Terminal) → g t ≡ false) → Fits s g
+Fits-none s {g} none = Fits-marks s g (λ t e. none t)
+
 -- tokens that are wanted where p is empty
 pub Fits-where : (p : List Terminal) (s : Site) (g : Terminal → Bool) → (p ≡ [] → Fits s g) → Fits s (λ t. g t && is_nil p)
 Fits-where [] s g fits = subst (Fits s) (λ i t. sym (and_true (g t)) i) (fits refl)

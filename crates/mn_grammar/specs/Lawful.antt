@@ -33,10 +33,11 @@ IsOpen f = ((t : Terminal) (w : List ℕ) → name_of t ≡ Some w → f t ≡ t
 abbrev pub IsClosed : (Terminal → Bool) → Type 0
 IsClosed f = (f a_name ≡ false) × (f a_number ≡ false)
 
--- no head, or nothing but marks, is among them
+-- no head is among them
 abbrev pub NoHead : (Terminal → Bool) → Type 0
 NoHead f = (t : Terminal) → is_head t ≡ true → f t ≡ false
 
+-- nothing but marks is among them
 abbrev pub OnlyMarks : (Terminal → Bool) → Type 0
 OnlyMarks f = (t : Terminal) → is_mark t ≡ false → f t ≡ false
 
@@ -63,6 +64,7 @@ Lacks f (t ∷ ts) = f t ≡ false
 abbrev pub is_before : Break → Break → Bool
 is_before c b = ltb c.0 b.0 || (c.0 == b.0 && ltb (rank c.1) (rank b.1))
 
+-- b, or c where that comes before it
 abbrev pub earlier : Break → Option Break → Break
 earlier b None = b
 earlier b (Some c) = if is_before c b then c else b
@@ -78,6 +80,7 @@ answered None n v rest = Ok (v, rest)
 answered (Some b) n v rest = Err (record { left = (n - b.0) + length rest; kind = b.1 })
 
 module _ {X V : Type 0} (s : Spec X V) where
+  -- what is to be answered at a tree that is followed by the rest
   abbrev pub answer_of : X → List Terminal → Answer V
   answer_of x rest = answered (first (s.breaks x)) (length (s.spell x)) (s.value x) rest
 
@@ -122,6 +125,7 @@ module _ {X V : Type 0} (s : Spec X V) where
     pub refuses : (q : List Terminal) → read (passed ++ token ∷ q) ≡ Err (fault_at (token ∷ q) kind)
     pub broken : (x : X) × (q : List Terminal) × (s.spell x ≡ passed ++ token ∷ q) × (first (s.breaks x) ≡ Some (length passed, kind))
 
+  -- what an answer to a list says
   abbrev pub Said : Reader V → List Terminal → Answer V → Type 0
   Said read ts (Ok r) = IsRead ts r.0 r.1
   Said read ts (Err e) = IsLeft read ts e ⊎ IsBroken read ts e
@@ -130,6 +134,7 @@ module _ {X V : Type 0} (s : Spec X V) where
   abbrev pub Complete : Reader V → Type 0
   Complete read = (x : X) (rest : List Terminal) → Lacks (s.blocks x) rest → read (s.spell x ++ rest) ≡ answer_of x rest
 
+  -- the law: the trees are in order, each is read, and each answer says what it should
   pub record Lawful (read : Reader V) : Type 0 where
     pub sound : Sound
     pub complete : Complete read

@@ -55,6 +55,7 @@ SomeVerdict X V =
     (s : Spec X V) (stop : Option LexFault) (read : Reader V) → Lawful s read → IsWhole s → (ts : List Terminal)
     → (r : Result V (ℕ × Kind)) × IsVerdict s stop ts r
 
+-- and only one
 abbrev pub OneVerdict : Type 0 → Type 0 → Type 0
 OneVerdict X V =
     (s : Spec X V) (stop : Option LexFault) (read : Reader V) → Lawful s read → IsWhole s → (ts : List Terminal) (r q : Result V (ℕ × Kind))

@@ -53,6 +53,7 @@ value_items j result (also a more) s = value_items j result more (j.ends.next s 
 abbrev pub turn_at : {S V R : Type 0} → Mark → Ends S V → (S → V → R) → (S → Reader V) → S → Reader (Turn S R)
 turn_at shut ends result entry s = then_read (entry s) (λ v. end_at shut (ends.comma s v) (ends.close s v) (ends.next s v) (result s v))
 
+-- the reader of the list, behind the mark that opens it
 unfoldable pub items_at : {S V R : Type 0} → Mark → Ends S V → (S → V → R) → (S → Reader V) → S → Reader R
 items_at shut ends result entry s = loop (turn_at shut ends result entry) s
 
@@ -61,10 +62,12 @@ abbrev pub breaks_maybe : {A S V : Type 0} → Judge A S V → Option Kind → O
 breaks_maybe j empty None s = on empty
 breaks_maybe j empty (Some items) s = breaks_items j items s
 
+-- what it stands for
 abbrev pub value_maybe : {A S V R : Type 0} → Judge A S V → R → (S → V → R) → Option (Items A) → S → R
 value_maybe j none result None s = none
 value_maybe j none result (Some items) s = value_items j result items s
 
+-- its reader
 unfoldable pub maybe_at : {S V R : Type 0} → Mark → Ends S V → Option Kind → R → (S → V → R) → (S → Reader V) → S → Reader R
 maybe_at shut ends empty none result entry s =
     or_else (is_the_mark shut) (then_read (mark_at MarksOnly shut empty) (λ _. ret none)) (items_at shut ends result entry s)

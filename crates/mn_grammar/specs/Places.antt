@@ -65,6 +65,7 @@ module _ {X : Type 0} (spell : X → List Terminal) (breaks : X → List Break) 
     pub no_name : WantsName p → ⊥
     pub no_number : WantsNumber p → ⊥
 
+  -- Unsupported, in either case
   abbrev pub IsUnsupported : List Terminal → Terminal → Type 0
   IsUnsupported p t = IsStrange p t ⊎ IsOther p t
 

@@ -18,6 +18,7 @@ use Rattle.mn_grammar.specs.declared.Kind.TheVariants.{Unsupported, Syntax}
 abbrev pub Answer : Type 0 → Type 0
 Answer V = Result (V × List Terminal) Fault
 
+-- it reads the front of a list
 abbrev pub Reader : Type 0 → Type 0
 Reader V = List Terminal → Answer V
 
@@ -31,6 +32,7 @@ kind_at Fixed (t ∷ ts) = if is_mark t then Syntax else Unsupported
 kind_at Mixed (t ∷ ts) = if is_head t && not (is_known_head t) then Unsupported else Syntax
 kind_at _ _ = Syntax
 
+-- the refusal of a token that isn't wanted, or of the list's end
 abbrev pub refused : Site → List Terminal → Fault
 refused s ts = fault_at ts (kind_at s ts)
 
@@ -38,10 +40,12 @@ refused s ts = fault_at ts (kind_at s ts)
 abbrev pub ret : {V : Type 0} → V → Reader V
 ret v ts = Ok (v, ts)
 
+-- what a token of the class gives, by the condition on it
 abbrev pub judged : {W : Type 0} → Option Kind → W → List Terminal → List Terminal → Answer W
 judged None w ts rest = Ok (w, rest)
 judged (Some kind) w ts rest = Err (fault_at ts kind)
 
+-- what a token gives, by what it stands for in the class
 abbrev pub classed : {W : Type 0} → Site → (W → Option Kind) → Option W → List Terminal → List Terminal → Answer W
 classed s judge None ts rest = Err (refused s ts)
 classed s judge (Some w) ts rest = judged (judge w) w ts rest
@@ -51,6 +55,7 @@ abbrev pub one : {W : Type 0} → Site → (Terminal → Option W) → (W → Op
 one s classify judge [] = Err (refused s [])
 one s classify judge (t ∷ ts) = classed s judge (classify t) (t ∷ ts) ts
 
+-- on with the value and with what is left, if there is one
 abbrev pub go_on : {V W : Type 0} → Answer V → (V → Reader W) → Answer W
 go_on (Ok r) b = b r.0 r.1
 go_on (Err e) b = Err e
@@ -69,6 +74,7 @@ pub data Turn (S V : Type 0) : Type 0 where
   goes_on : S → Turn S V
   is_done : V → Turn S V
 
+-- what follows a turn
 abbrev pub turned : {S V : Type 0} → (S → Reader V) → Turn S V → Reader V
 turned more (goes_on s) = more s
 turned more (is_done v) = ret v
@@ -86,6 +92,7 @@ loop step s ts = loop_by (suc (length ts)) step s ts
 abbrev pub which_of : {W : Type 0} → (W → Terminal) → List W → Terminal → Option W
 which_of token all t = find (λ w. same_token t (token w)) all
 
+-- one of them, with a condition on it
 unfoldable pub one_of : {W : Type 0} → Site → (W → Terminal) → List W → (W → Option Kind) → Reader W
 one_of site token all judge = one site (which_of token all) judge
 
@@ -95,32 +102,39 @@ either_of (Some v) o = Some (inl v)
 either_of None (Some w) = Some (inr w)
 either_of None None = None
 
+-- of the first, and else of the other
 abbrev pub which_either : {V W : Type 0} → (Terminal → Option V) → (Terminal → Option W) → Terminal → Option (V ⊎ W)
 which_either first other t = either_of (first t) (other t)
 
--- a mark with a condition on it
+-- the mark m
 abbrev pub which_mark : Mark → Terminal → Option (Unit {0})
 which_mark m t = if is_the_mark m t then Some tt else None
 
+-- that mark, with a condition on it, at a place of this site
 unfoldable pub mark_at : Site → Mark → Option Kind → Reader (Unit {0})
 mark_at s m c = one s (which_mark m) (λ _. c)
 
--- a name, any number, a certain word or head, each with a condition on it
+-- a name, with a condition on it
 unfoldable pub name_at : (List ℕ → Option Kind) → Reader (List ℕ)
 name_at judge = one Free name_of judge
 
+-- any number, with a condition on it
 unfoldable pub number_at : (ℤ → Option Kind) → Reader ℤ
 number_at judge = one Free number_of judge
 
+-- the word of these bytes
 abbrev pub which_word : List ℕ → Terminal → Option (Unit {0})
 which_word bs t = if is_the_word bs t then Some tt else None
 
+-- that word, with a condition on it
 unfoldable pub word_at : List ℕ → Option Kind → Reader (Unit {0})
 word_at bs c = one Fixed (which_word bs) (λ _. c)
 
+-- the head of these bytes
 abbrev pub which_head : List ℕ → Terminal → Option (Unit {0})
 which_head bs t = if is_the_head bs t then Some tt else None
 
+-- that head, with a condition on it
 unfoldable pub head_at : List ℕ → Option Kind → Reader (Unit {0})
 head_at bs c = one Fixed (which_head bs) (λ _. c)
 
@@ -129,10 +143,12 @@ abbrev pub which_end : {S V : Type 0} → Mark → S → V → Terminal → Opti
 which_end shut s v t =
     if is_the_mark Comma t then Some (goes_on s) else (if is_the_mark shut t then Some (is_done v) else None)
 
+-- the condition on the one, and on the other
 abbrev pub judge_end : {S V : Type 0} → Option Kind → Option Kind → Turn S V → Option Kind
 judge_end comma close (goes_on s) = comma
 judge_end comma close (is_done v) = close
 
+-- the end of an entry
 unfoldable pub end_at : {S V : Type 0} → Mark → Option Kind → Option Kind → S → V → Reader (Turn S V)
 end_at shut comma close s v = one MarksOnly (which_end shut s v) (judge_end comma close)
 
@@ -140,6 +156,7 @@ end_at shut comma close s v = one MarksOnly (which_end shut s v) (judge_end comm
 abbrev pub never : {V : Type 0} → Reader V
 never ts = Err (fault_at ts Syntax)
 
+-- of no depth nothing is read
 abbrev pub within : {D S V : Type 0} → (D → S → Reader V) → Option D → S → Reader V
 within read None s = never
 within read (Some d) s = read d s
@@ -155,12 +172,15 @@ abbrev pub kind_named : Option LexFault → ℕ → Kind → Kind
 kind_named stop zero kind = kind_at_end stop
 kind_named stop (suc left) kind = kind
 
+-- the fault with that kind
 abbrev pub renamed : Option LexFault → Fault → Fault
 renamed stop e = record { left = e.left; kind = kind_named stop e.left e.kind }
 
+-- the same of a result
 abbrev pub named : {V : Type 0} → Option LexFault → Result V Fault → Result V Fault
 named stop (Ok v) = Ok v
 named stop (Err e) = Err (renamed stop e)
 
+-- the result of a reader of whole lists, where `stop` is what ended the list
 abbrev pub whole : {V : Type 0} → Option LexFault → Reader V → List Terminal → Result V Fault
 whole stop read ts = named stop (finished (read ts))

@@ -29,6 +29,7 @@ module _ {K Val : Type 0} {Tree : K → Type 0} (sorts : Sorts K Val Tree) where
   spell_more k [] p = sorts.spell k p.0 ++ mark CloseRound ∷ []
   spell_more k (l ∷ others) p = sorts.spell k p.0 ++ mark Comma ∷ spell_more l others p.1
 
+  -- what they break, behind the values so far
   abbrev pub breaks_more : (k : K) (others : List K) → List Val → Arguments Tree (k ∷ others) → List Break
   breaks_more k [] vs p =
       sorts.breaks k vs p.0 ++ behind (length (sorts.spell k p.0)) (on (sorts.on_mark k (with_value k vs p.0)))
@@ -36,6 +37,7 @@ module _ {K Val : Type 0} {Tree : K → Type 0} (sorts : Sorts K Val Tree) where
       sorts.breaks k vs p.0
       ++ behind (length (sorts.spell k p.0)) (on (sorts.on_mark k (with_value k vs p.0)) ++ behind 1 (breaks_more l others (with_value k vs p.0) p.1))
 
+  -- all values with theirs
   abbrev pub values_more : (k : K) (others : List K) → List Val → Arguments Tree (k ∷ others) → List Val
   values_more k [] vs p = with_value k vs p.0
   values_more k (l ∷ others) vs p = values_more l others (with_value k vs p.0) p.1
@@ -45,16 +47,19 @@ module _ {K Val : Type 0} {Tree : K → Type 0} (sorts : Sorts K Val Tree) where
   spell_row [] u = mark CloseRound ∷ []
   spell_row (k ∷ ks) p = spell_more k ks p
 
+  -- what a row breaks
   abbrev pub breaks_row : (row : List K) → Arguments Tree row → List Break
   breaks_row [] u = []
   breaks_row (k ∷ ks) p = breaks_more k ks [] p
 
+  -- the values of a row
   abbrev pub values_row : (row : List K) → Arguments Tree row → List Val
   values_row [] u = []
   values_row (k ∷ ks) p = values_more k ks [] p
 
 -- the readers, of a reader for each sort of argument, which is told the values so far
 module _ {K Val : Type 0} (on_mark : K → List Val → Option Kind) (read : K → List Val → Reader Val) where
+  -- the arguments of a sort and of the others, behind the values so far
   abbrev pub more_at : K → List K → List Val → Reader (List Val)
   more_at k [] vs =
       then_read (read k vs) (λ v. then_read (mark_at MarksOnly CloseRound (on_mark k (vs ++ v ∷ []))) (λ u. ret (vs ++ v ∷ [])))

@@ -16,6 +16,7 @@ abbrev pub name_of : Terminal → Option (List ℕ)
 name_of (word bs) = if is_name bs then Some bs else None
 name_of _ = None
 
+-- a head, a mark, a number
 abbrev pub is_head : Terminal → Bool
 is_head (head bs) = true
 is_head _ = false
@@ -60,11 +61,12 @@ abbrev pub number_of : Terminal → Option ℤ
 number_of (number n) = Some n
 number_of _ = None
 
--- the token is the word, the head of these bytes
+-- the token is the word of these bytes
 abbrev pub is_the_word : List ℕ → Terminal → Bool
 is_the_word bs (word w) = bytes_eq w bs
 is_the_word bs _ = false
 
+-- the token is the head of these bytes
 abbrev pub is_the_head : List ℕ → Terminal → Bool
 is_the_head bs (head h) = bytes_eq h bs
 is_the_head bs _ = false
