@@ -1,0 +1,4 @@
+pub mod Changes
+pub mod Held
+pub mod Sets
+pub mod Unmarked

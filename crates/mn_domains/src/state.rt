@@ -1,0 +1,91 @@
+//! What changes of all sets.
+ghost use Rattle.std.specs.Prelude.{◌≡◌, ◌+◌, ◌*◌, ◌<◌, ◌≤◌, length, slice_get, slice_set, Some, IfOk};
+ghost use Rattle.mn_domains.specs.Held.{TellsMoved, bit_of, cleared};
+
+use super::bits::{WIDTH, is_set};
+use super::shape::Ends;
+use mn_boxes::Moved;
+use std::alloc::{AllocError, Global};
+
+/// The sets of all variables, but for what never changes of them.
+#[derive(Drop)]
+pub struct State {
+    /// The ends of each variable's set.
+    pub ends: Vec<Ends>,
+    /// A bit for each value of the BOOL and DISCRETE variables.
+    pub bits: Vec<u64>,
+    /// How many values all sets have together.
+    pub left: u64,
+}
+
+/// What moved where a set had the old ends and has the new ones.
+fn moved(old: Ends, new: Ends) -> Moved
+    ensures { TellsMoved old new result }
+{
+    Moved {
+        lower: old.lo != new.lo,
+        upper: old.hi != new.hi,
+        fixed: new.size == 1 && old.size != 1,
+        any: old.size != new.size,
+    }
+}
+
+impl State {
+    ghost use Rattle.mn_domains.specs.Unmarked.{Unmarks};
+
+    /// Gives variable `i` the new ends in place of the old ones, and says what moved.
+    pub fn put(&mut self, i: usize, old: Ends, new: Ends) -> Moved
+        requires here { slice_get self.old.ends.items i ≡ Some old }
+        requires less { new.size ≤ old.size }
+        requires counted { old.size ≤ self.old.left }
+        ensures ends { self.new.ends.items ≡ slice_set self.old.ends.items i new }
+        ensures bits { self.new.bits.items ≡ self.old.bits.items }
+        ensures left { self.new.left + old.size ≡ self.old.left + new.size }
+        ensures moved { TellsMoved old new result }
+    {
+        self.ends[i] = new;
+        self.left -= old.size - new.size;
+        moved(old, new)
+    }
+
+    /// Clears a bit.
+    fn clear(&mut self, bit: usize)
+        requires { bit < 64 * length self.old.bits.items }
+        ensures bits { self.new.bits.items ≡ cleared self.old.bits.items bit }
+        ensures ends { self.new.ends.items ≡ self.old.ends.items }
+        ensures left { self.new.left ≡ self.old.left }
+    {
+        self.bits[bit / WIDTH] &= !(1 << (bit % WIDTH));
+    }
+
+    /// Takes a value between the ends of variable `i` out, where it is there. This is its bit.
+    pub fn unmark(&mut self, i: usize, old: Ends, bit: usize) -> Moved
+        requires here { slice_get self.old.ends.items i ≡ Some old }
+        requires room { bit < 64 * length self.old.bits.items }
+        requires some { 1 ≤ old.size }
+        requires counted { old.size ≤ self.old.left }
+        ensures { Unmarks self.old self.new i old bit result }
+    {
+        if !is_set(self.bits.as_slice(), bit) {
+            return moved(old, old);
+        }
+        self.clear(bit);
+        let size = old.size - 1;
+        self.put(i, old, Ends { size, ..old })
+    }
+
+    /// The same sets, in memory of their own.
+    pub fn copy(&self, alloc: Global) -> Result<State, AllocError>
+        ensures ends { IfOk result (λ copy. copy.ends.items ≡ self.now.ends.items) }
+        ensures bits { IfOk result (λ copy. copy.bits.items ≡ self.now.bits.items) }
+        ensures left { IfOk result (λ copy. copy.left ≡ self.now.left) }
+    {
+        let ends = Vec::from_slice(alloc, self.ends.as_slice())?;
+        let bits = Vec::from_slice(alloc, self.bits.as_slice())?;
+        Ok(State {
+            ends,
+            bits,
+            left: self.left,
+        })
+    }
+}
