@@ -2,6 +2,9 @@ pub mod BoxLemmas
 pub mod Emptying
 pub mod EndLemmas
 pub mod Filtered
+pub mod Full
+pub mod Layers
+pub mod Laying
 pub mod Marks
 pub mod Parts
 pub mod Put

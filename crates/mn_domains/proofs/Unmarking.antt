@@ -13,7 +13,7 @@ use Rattle.mn_boxes.specs.declared.change.Moved.{Moved}
 use Rattle.mn_domains.specs.Changes.{Changed, is_not}
 use Rattle.mn_domains.specs.Held.{AreApartFrom, AreEndsOf, IsHeld, IsKept, IsShape, IsState, TellsBit, bit_of, cleared, has_bit, is_bounded_shape, marked, sets_held, sets_of_state, values_held, variable_held}
 use Rattle.mn_domains.specs.Sets.{Sets}
-use Rattle.mn_domains.specs.Unmarked.{Unmarks, UnmarksIf, one_less}
+use Rattle.mn_domains.specs.States.{Unmarks, UnmarksIf, one_less}
 use Rattle.mn_domains.specs.declared.shape.Ends.{Ends}
 use Rattle.mn_domains.specs.declared.shape.Shape.{Shape}
 use Rattle.mn_domains.specs.declared.shape.Shape.TheVariants.{Stretch, Listed, Bits}

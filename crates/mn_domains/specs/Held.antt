@@ -3,6 +3,7 @@ use Rattle.std.specs.Prelude.{◌≡◌, ◌≢◌, ◌↔◌, IsTrue, ℕ, ◌+
 use Rattle.std.specs.Int.{bit_at, bit_not, int_gap, w64}
 use Rattle.std.specs.List.{AllByRecursion, AllZip}
 use Rattle.mn_model.specs.Domain.{Ascends, IsFirst, IsLast, IsValue, stretch}
+use Rattle.mn_model.specs.declared.limits.TheConstants.{SPAN}
 use Rattle.mn_boxes.specs.Boxes.{count_of}
 use Rattle.mn_boxes.specs.Sets.{Variable}
 use Rattle.mn_boxes.specs.declared.change.Moved.{Moved}
@@ -79,6 +80,7 @@ pub record IsListing (listed : List ℤ) (from to : ℕ) : Type 0 where
   pub within : to ≤ length listed
   pub ascends : Ascends (slice_range listed from to)
   pub valued : AllByRecursion IsValue (slice_range listed from to)
+  pub few : to ≤ from + SPAN
 
 -- there is room for the bits up to the last one, and its number is small
 pub record IsRoom (room last : ℕ) : Type 0 where
@@ -143,3 +145,18 @@ pub record IsKept (listed : List ℤ) (shapes : List Shape) (now : State) (saved
 -- the sets of a state
 abbrev pub sets_of_state : List ℤ → List Shape → State → List (List ℤ)
 sets_of_state listed shapes s = sets_held listed s.bits.items shapes s.ends.items
+
+-- these are the ends of all that is declared
+abbrev pub AreFullEnds : Shape → Ends → Type 0
+AreFullEnds (Stretch lo hi) e = (e.lo ≡ lo) × (e.hi ≡ hi)
+AreFullEnds (Listed from to) e = (e.place ≡ from) × (e.place + e.size ≡ to)
+AreFullEnds (Bits lo hi at) e = (e.lo ≡ lo) × (e.hi ≡ hi)
+
+pub record IsFull (listed : List ℤ) (shape : Shape) (e : Ends) : Type 0 where
+  pub ends : AreEndsOf (variable_held listed shape).declared e
+  pub full : AreFullEnds shape e
+
+-- how many values the sets with these ends have
+abbrev pub sizes : List Ends → ℕ
+sizes [] = 0
+sizes (e ∷ ends) = e.size + sizes ends

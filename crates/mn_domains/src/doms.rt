@@ -1,15 +1,17 @@
-ghost use Rattle.std.specs.Prelude.{◌≡◌, ◌<◌, [], ◌∷◌, ◌++◌, IsTrue, ◌↔◌, OnOk, OnErr, filter, int_le, int_lt, length};
+ghost use Rattle.std.specs.Prelude.{◌≡◌, ◌<◌, [], ◌∷◌, ◌++◌, IsTrue, ◌↔◌, IfOk, OnOk, OnErr, filter, int_le, int_lt, length};
 ghost use Rattle.std.specs.Ordering.{int_eq};
 ghost use Rattle.mn_model.specs.Domain.{Has, IsFirst, IsLast};
 ghost use Rattle.mn_model.specs.Variable.{number_of};
-ghost use Rattle.mn_boxes.specs.Boxes.{count_of, set_of, variable_at};
+ghost use Rattle.mn_model.specs.Problem.{domains_of};
+ghost use Rattle.mn_boxes.specs.Boxes.{count_of, declared_variables, set_of, variable_at};
 ghost use Rattle.mn_boxes.specs.Sets.{MayGo, least};
 
+use super::layout::layout_of;
 use super::shape::{self, Ends, Shape};
 use super::state::State;
 use mn_boxes::Moved;
-use mn_model::VarId;
-use std::alloc::AllocError;
+use mn_model::{Instance, VarId};
+use std::alloc::{AllocError, Global};
 use std::marker::Model;
 
 /// No value would stay.
@@ -47,6 +49,22 @@ impl Model for Doms {
 impl Doms {
     ghost use Rattle.mn_domains.specs.Changes.{Changed, Restored, is_not};
     ghost use Rattle.mn_domains.specs.Sets.{AreBoxes, Sets};
+
+    /// The declared sets, with none saved.
+    pub fn build(alloc: Global, inst: &Instance) -> Result<Doms, AllocError>
+        ensures vars { IfOk result (λ d. d.vars ≡ declared_variables inst.now.decls) }
+        ensures sets { IfOk result (λ d. d.sets ≡ domains_of inst.now.decls) }
+        ensures saved { IfOk result (λ d. d.saved ≡ []) }
+    {
+        let layout = layout_of(alloc, inst)?;
+        let current = State::full(alloc, &layout)?;
+        Ok(Doms {
+            shapes: layout.shapes,
+            listed: layout.listed,
+            current,
+            saved: Vec::new(alloc),
+        })
+    }
 
     /// What the sets keep: now and whenever they were saved they are a box.
     pub fn lawful(&self)

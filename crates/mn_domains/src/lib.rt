@@ -10,6 +10,7 @@
 
 mod bits;
 mod doms;
+mod layout;
 mod listed;
 mod marked;
 mod shape;

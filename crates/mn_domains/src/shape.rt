@@ -1,10 +1,10 @@
 //! How one set is held, and which ends it has after a change.
-ghost use Rattle.std.specs.Prelude.{◌≡◌, ◌*◌, ◌<◌, IfSome, ◌<ℤ◌, ◌≤ℤ◌, IsTrue, ◌↔◌, length, filter, int_le, int_lt};
+ghost use Rattle.std.specs.Prelude.{◌≡◌, ◌*◌, ◌^◌, ◌<◌, ◌≤◌, IfSome, ◌<ℤ◌, ◌≤ℤ◌, IsTrue, ◌↔◌, length, filter, int_le, int_lt};
 ghost use Rattle.std.specs.Ordering.{int_eq};
 ghost use Rattle.mn_model.specs.Domain.{Has, IsFirst, IsValue, stretch};
 ghost use Rattle.mn_boxes.specs.Sets.{MayGo, least};
 ghost use Rattle.mn_domains.specs.Changes.{is_not};
-ghost use Rattle.mn_domains.specs.Held.{AreEndsOf, IsHeld, IsShape, IsWithin, TellsBit, values_held, variable_held};
+ghost use Rattle.mn_domains.specs.Held.{AreEndsOf, IsFull, IsHeld, IsShape, IsWithin, TellsBit, values_held, variable_held};
 
 use super::{listed as parts, marked};
 
@@ -53,12 +53,31 @@ pub fn stretched(lo: i64, hi: i64) -> Ends
     ensures ends { AreEndsOf (stretch lo hi) result }
     ensures lo { result.lo ≡ lo }
     ensures hi { result.hi ≡ hi }
+    ensures few { result.size ≤ 2 ^ 32 }
 {
     Ends {
         lo,
         hi,
         size: hi.abs_diff(lo) + 1,
         place: 0,
+    }
+}
+
+/// All that is declared.
+pub fn full(listed: &[i64], shape: Shape) -> Ends
+    requires { IsShape listed.now (2 ^ 60) shape }
+    ensures full { IsFull listed.now shape result }
+    ensures few { result.size ≤ 2 ^ 32 }
+{
+    match shape {
+        Shape::Stretch(lo, hi) => stretched(lo, hi),
+        Shape::Bits(lo, hi, _) => stretched(lo, hi),
+        Shape::Listed(from, to) => Ends {
+            lo: listed[from],
+            hi: listed[to - 1],
+            size: (to - from) as u64,
+            place: from,
+        },
     }
 }
 

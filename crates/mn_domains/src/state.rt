@@ -1,10 +1,13 @@
 //! What changes of all sets.
-ghost use Rattle.std.specs.Prelude.{◌≡◌, ◌+◌, ◌*◌, ◌<◌, ◌≤◌, length, slice_get, slice_set, Some, IfOk};
-ghost use Rattle.mn_domains.specs.Held.{TellsMoved, bit_of, cleared};
+ghost use Rattle.std.specs.Prelude.{◌≡◌, ◌+◌, ◌*◌, ◌^◌, ◌<◌, ◌≤◌, length, replicate, slice_get, slice_set, Some, IfOk};
+ghost use Rattle.std.specs.List.{AllByRecursion, AllZip};
+ghost use Rattle.mn_domains.specs.Held.{IsFull, IsShape, TellsMoved, cleared, sizes};
 
 use super::bits::{WIDTH, is_set};
-use super::shape::Ends;
+use super::layout::Layout;
+use super::shape::{self, Ends, Shape};
 use mn_boxes::Moved;
+use mn_model::VARIABLES;
 use std::alloc::{AllocError, Global};
 
 /// The sets of all variables, but for what never changes of them.
@@ -30,8 +33,54 @@ fn moved(old: Ends, new: Ends) -> Moved
     }
 }
 
+// So many words with all bits set.
+fn ones(alloc: Global, words: usize) -> Result<Vec<u64>, AllocError>
+    ensures { IfOk result (λ w. w.items ≡ replicate words u64.MAX) }
+{
+    vec![in alloc; u64::MAX; words]
+}
+
+// The ends of all that is declared, for each variable.
+fn full_ends(alloc: Global, listed: &[i64], shapes: &[Shape]) -> Result<Vec<Ends>, AllocError>
+    requires { AllByRecursion (IsShape listed.now (2 ^ 60)) shapes.now }
+    ensures full { IfOk result (λ ends. AllZip (IsFull listed.now) shapes.now ends.items) }
+    ensures small { IfOk result (λ ends. AllByRecursion (λ e. e.size ≤ 2 ^ 32) ends.items) }
+{
+    let mut ends = Vec::with_capacity(alloc, shapes.len())?;
+    for shape in shapes {
+        ends.push(shape::full(listed, *shape))?;
+    }
+    Ok(ends)
+}
+
+// How many values the sets with these ends have.
+fn size_of_all(ends: &[Ends]) -> u64
+    requires few { length ends.now ≤ VARIABLES }
+    requires small { AllByRecursion (λ e. e.size ≤ 2 ^ 32) ends.now }
+    ensures { result ≡ sizes ends.now }
+{
+    let mut size = 0;
+    for one in ends {
+        size += one.size;
+    }
+    size
+}
+
 impl State {
-    ghost use Rattle.mn_domains.specs.Unmarked.{Unmarks};
+    ghost use Rattle.mn_domains.specs.States.{IsFullState, Unmarks};
+
+    /// All that is declared.
+    pub fn full(alloc: Global, layout: &Layout) -> Result<State, AllocError>
+        requires shaped { AllByRecursion (IsShape layout.now.listed.items layout.now.bits) layout.now.shapes.items }
+        requires few { length layout.now.shapes.items ≤ VARIABLES }
+        requires room { layout.now.bits ≤ 2 ^ 40 }
+        ensures { IfOk result (IsFullState layout.now.listed.items layout.now.shapes.items) }
+    {
+        let bits = ones(alloc, layout.bits / WIDTH + 1)?;
+        let ends = full_ends(alloc, layout.listed.as_slice(), layout.shapes.as_slice())?;
+        let left = size_of_all(ends.as_slice());
+        Ok(State { ends, bits, left })
+    }
 
     /// Gives variable `i` the new ends in place of the old ones, and says what moved.
     pub fn put(&mut self, i: usize, old: Ends, new: Ends) -> Moved

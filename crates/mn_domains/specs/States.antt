@@ -1,9 +1,17 @@
--- What it does to take a value out by its bit.
-use Rattle.std.specs.Prelude.{◌≡◌, ℕ, ◌+◌, ◌-◌, Bool, true, false, slice_set}
+-- What a state is at first, and what it does to take a value out by its bit.
+use Rattle.std.specs.Prelude.{◌≡◌, ℕ, ◌+◌, ◌-◌, ◌*◌, ℤ, Bool, true, false, List, length, map, slice_set}
+use Rattle.std.specs.List.{AllByRecursion}
 use Rattle.mn_boxes.specs.declared.change.Moved.{Moved}
-use Rattle.mn_domains.specs.Held.{TellsMoved, bit_of, cleared}
+use Rattle.mn_domains.specs.Held.{IsShape, IsState, TellsMoved, bit_of, cleared, sets_of_state, variable_held}
 use Rattle.mn_domains.specs.declared.shape.Ends.{Ends}
+use Rattle.mn_domains.specs.declared.shape.Shape.{Shape}
 use Rattle.mn_domains.specs.declared.state.State.{State}
+
+-- the state of all that is declared
+pub record IsFullState (listed : List ℤ) (shapes : List Shape) (s : State) : Type 0 where
+  pub state : IsState listed shapes s.ends.items s.bits.items s.left
+  pub shaped : AllByRecursion (IsShape listed (64 * length s.bits.items)) shapes
+  pub sets : sets_of_state listed shapes s ≡ map (λ v. v.declared) (map (variable_held listed) shapes)
 
 -- the ends with one value less between them
 abbrev pub one_less : Ends → Ends
