@@ -26,9 +26,9 @@ listing_full listed from to is =
     let within = is.within in
     let long : length xs ≡ to - from = length-take-le (to - from) (drop from listed) (omega (arith, length-drop from listed)) in
     let first : IsFirst (get_or listed from (pos 0)) xs =
-        slice_get_at xs 0 (pos 0) (omega arith) ∙ ap Some (get_or-take (to - from) (drop from listed) 0 (pos 0) (omega arith) ∙ (get_or-drop from listed 0 (pos 0) ∙ ap (λ n. get_or listed n (pos 0)) (omega arith))) in
+    slice_get_at xs 0 (pos 0) (omega arith) ∙ ap Some (get_or-take (to - from) (drop from listed) 0 (pos 0) (omega arith) ∙ (get_or-drop from listed 0 (pos 0) ∙ ap (λ n. get_or listed n (pos 0)) (omega arith))) in
     let last : IsLast (get_or listed (to - 1) (pos 0)) xs =
-        slice_get_at xs (length xs - 1) (pos 0) (omega arith) ∙ ap Some (ap (λ n. get_or xs (n - 1) (pos 0)) long ∙ (get_or-take (to - from) (drop from listed) (to - from - 1) (pos 0) (omega arith) ∙ (get_or-drop from listed (to - from - 1) (pos 0) ∙ ap (λ n. get_or listed n (pos 0)) (omega arith)))) in
+    slice_get_at xs (length xs - 1) (pos 0) (omega arith) ∙ ap Some (ap (λ n. get_or xs (n - 1) (pos 0)) long ∙ (get_or-take (to - from) (drop from listed) (to - from - 1) (pos 0) (omega arith) ∙ (get_or-drop from listed (to - from - 1) (pos 0) ∙ ap (λ n. get_or listed n (pos 0)) (omega arith)))) in
     record { ends = ends_of xs (record { lo = get_or listed from (pos 0); hi = get_or listed (to - 1) (pos 0); size = to - from; place = from }) is.ascends first last (sym long); full = (refl, omega arith) }
 
 -- all bits are set
@@ -36,7 +36,8 @@ pub bit_of-ones : (words i : ℕ) → i < 64 * words → bit_of (replicate words
 bit_of-ones words i below =
     let place : i / 64 < words = omega (arith, below) in
     let word : get_or (replicate words 18446744073709551615) (i / 64) 0 ≡ 18446744073709551615 = get_or-replicate words (i / 64) 18446744073709551615 0 place in
-    let one : bit_at 18446744073709551615 (i % 64) ≡ 1 = bit_at_ones 64 (i % 64) (omega arith) in
+    let small : i % 64 < 64 = omega (arith, below) in
+    let one : bit_at 18446744073709551615 (i % 64) ≡ 1 = bit_at_ones 64 (i % 64) small in
     ap (λ n. bit_at n (i % 64) == 1) word ∙ ap (λ b. b == 1) one
 
 -- so all declared values are there

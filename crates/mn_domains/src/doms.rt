@@ -73,6 +73,13 @@ impl Doms {
         let _left = self.current.left;
     }
 
+    /// How many variables there are.
+    pub fn vars(&self) -> usize
+        ensures { result ≡ length self.now.sets }
+    {
+        self.shapes.len()
+    }
+
     /// The least value of the variable's set.
     pub fn lo(&self, v: VarId) -> i64
         requires { number_of v < length self.now.sets }
