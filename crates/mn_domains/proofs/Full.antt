@@ -1,16 +1,16 @@
 -- Sets of all that is declared.
-use Rattle.std.proofs.Common.{◌≡◌, ℕ, zero, suc, ◌+◌, ◌-◌, ◌*◌, ◌/◌, ◌%◌, ◌^◌, ◌<◌, ◌≤◌, ◌==◌, ℤ, pos, ◌≤ℤ◌, Bool, true, List, [], ◌∷◌, ◌++◌, length, map, filter, take, drop, replicate, slice_range, get_or, Some, refl, sym, subst, ap, ◌∙◌, arith}
+use Rattle.std.proofs.Common.{◌≡◌, ℕ, zero, suc, ◌+◌, ◌-◌, ◌*◌, ◌/◌, ◌%◌, ◌^◌, ◌<◌, ◌≤◌, ◌==◌, ℤ, pos, true, List, [], ◌∷◌, ◌++◌, length, map, filter, take, drop, replicate, slice_range, get_or, Some, refl, sym, subst, ap, ◌∙◌, arith}
 use Rattle.std.proofs.lemmas.Int.{ints}
 use Rattle.std.proofs.lemmas.List.{get_or-drop, get_or-replicate, get_or-take, length-drop, length-replicate, length-take-le}
 use Rattle.std.proofs.lemmas.Nat.Bits.{bit_at_ones}
 use Rattle.std.specs.Int.{bit_at, int_gap}
 use Rattle.std.specs.List.{AllByRecursion, AllZip}
-use Rattle.mn_model.specs.Domain.{Ascends, Has, IsFirst, IsLast, stretch}
+use Rattle.mn_model.specs.Domain.{IsFirst, IsLast, stretch}
 use Rattle.mn_model.proofs.Stretches.{Has-stretch, plus-int_gap}
 use Rattle.mn_boxes.specs.Boxes.{count_of}
 use Rattle.mn_model.specs.declared.instance.Decl.{Decl}
-use Rattle.mn_boxes.specs.Sets.{Variable, variable_of}
-use Rattle.mn_domains.specs.Held.{AreEndsOf, AreFullEnds, IsFull, IsHeld, IsListing, IsShape, IsState, IsWithin, bit_of, has_bit, marked, part_of, sets_held, sizes, values_held, variable_held}
+use Rattle.mn_boxes.specs.Sets.{variable_of}
+use Rattle.mn_domains.specs.Held.{AreEndsOf, IsFull, IsHeld, IsListing, IsShape, IsWithin, bit_of, has_bit, sets_held, sizes, values_held, variable_held}
 use Rattle.mn_domains.specs.States.{IsFullState}
 use Rattle.mn_domains.specs.declared.state.State.{State}
 use Rattle.mn_domains.specs.declared.shape.Ends.{Ends}
@@ -35,8 +35,8 @@ listing_full listed from to is =
 pub bit_of-ones : (words i : ℕ) → i < 64 * words → bit_of (replicate words 18446744073709551615) i ≡ true
 bit_of-ones words i below =
     let place : i / 64 < words = omega (arith, below) in
-    let word : get_or (replicate words 18446744073709551615) (i / 64) 0 ≡ 18446744073709551615 = get_or-replicate words (i / 64) 18446744073709551615 0 place in
     let small : i % 64 < 64 = omega (arith, below) in
+    let word : get_or (replicate words 18446744073709551615) (i / 64) 0 ≡ 18446744073709551615 = get_or-replicate words (i / 64) 18446744073709551615 0 place in
     let one : bit_at 18446744073709551615 (i % 64) ≡ 1 = bit_at_ones 64 (i % 64) small in
     ap (λ n. bit_at n (i % 64) == 1) word ∙ ap (λ b. b == 1) one
 

@@ -1,5 +1,5 @@
 -- The layout of more and more variables.
-use Rattle.std.proofs.Common.{◌≡◌, ℕ, zero, suc, ◌+◌, ◌-◌, ◌*◌, ◌<◌, ◌≤◌, ℤ, true, List, [], ◌∷◌, ◌++◌, length, map, take, drop, slice_get, slice_range, Option, Some, None, refl, sym, subst, ap, ◌∙◌, arith}
+use Rattle.std.proofs.Common.{◌≡◌, ℕ, zero, suc, ◌+◌, ◌-◌, ◌≤◌, ℤ, true, List, [], ◌∷◌, ◌++◌, length, map, take, drop, slice_get, slice_range, Some, refl, sym, subst, ap, ◌∙◌, arith}
 use Rattle.std.proofs.lemmas.List.{length-append, length-take, drop-take, take-take, map-append}
 use Rattle.std.specs.Int.{int_gap}
 use Rattle.std.specs.List.{AllByRecursion}
@@ -7,10 +7,9 @@ use Rattle.std.specs.Option.{option_map}
 use Rattle.mn_model.specs.Domain.{Ascends, IsDomain, IsValue}
 use Rattle.mn_model.specs.Problem.{IsLawfulDecl, SuitsKind}
 use Rattle.mn_model.specs.declared.instance.Decl.{Decl}
-use Rattle.mn_model.specs.declared.limits.TheConstants.{SPAN}
 use Rattle.mn_model.specs.declared.variable.Kind.{Kind}
 use Rattle.mn_boxes.specs.Sets.{Variable, is_bounded, variable_of}
-use Rattle.mn_domains.specs.Held.{AreApartFrom, IsListing, IsShape, variable_held}
+use Rattle.mn_domains.specs.Held.{AreApartFrom, IsShape, variable_held}
 use Rattle.mn_domains.specs.Layouts.{AddsShape, AreShapesOf, BeginsAt, Grew, bits_behind, last_behind}
 use Rattle.mn_domains.specs.declared.shape.Shape.{Shape}
 use Rattle.mn_domains.specs.declared.shape.Shape.TheVariants.{Stretch, Listed, Bits}

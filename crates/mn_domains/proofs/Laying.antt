@@ -1,16 +1,15 @@
 -- How declared values come to be held.
-use Rattle.std.proofs.Common.{◌≡◌, ℕ, zero, suc, ◌+◌, ◌-◌, ◌*◌, ◌^◌, ◌<◌, ◌≤◌, ℤ, pos, ◌+ℤ◌, ◌-ℤ◌, ◌≤ℤ◌, inl, inr, Bool, true, false, List, [], ◌∷◌, ◌++◌, length, map, take, drop, slice_get, slice_range, Some, refl, sym, subst, ap, ◌∙◌, arith}
+use Rattle.std.proofs.Common.{◌≡◌, ℕ, zero, suc, ◌+◌, ◌-◌, ◌^◌, ◌<◌, ◌≤◌, ℤ, pos, ◌+ℤ◌, ◌-ℤ◌, inl, inr, true, false, List, [], ◌∷◌, ◌++◌, length, take, drop, slice_get, slice_range, Some, refl, sym, subst, ap, ◌∙◌, arith}
 use Rattle.std.proofs.lemmas.Int.{ints}
-use Rattle.std.proofs.lemmas.List.{length-append, length-drop, take_at, drop_at, take_rest, take_all, append_assoc}
+use Rattle.std.proofs.lemmas.List.{length-append, length-drop, take_at, drop_at, take_rest, take_all}
 use Rattle.std.specs.Int.{int_gap}
 use Rattle.std.specs.List.{AllByRecursion}
 use Rattle.mn_model.specs.Domain.{Ascends, Has, IsDomain, IsFirst, IsLast, IsValue, numbers_from, stretch}
 use Rattle.mn_model.specs.declared.limits.TheConstants.{SPAN}
 use Rattle.mn_model.proofs.Stretches.{length-numbers_from, length-stretch, plus-int_gap, slice_get-numbers_from}
-use Rattle.mn_boxes.specs.Sets.{Variable}
 use Rattle.mn_boxes.proofs.Members.{stands_first, stands_last}
-use Rattle.mn_domains.specs.Held.{IsListing, IsRoom, IsShape, IsSpan, variable_held}
-use Rattle.mn_domains.specs.Layouts.{AddsShape, Grew}
+use Rattle.mn_domains.specs.Held.{IsListing, IsSpan}
+use Rattle.mn_domains.specs.Layouts.{AddsShape}
 use Rattle.mn_domains.specs.declared.shape.Shape.TheVariants.{Stretch, Listed, Bits}
 use Rattle.mn_domains.proofs.Marks.{int_gap-plus}
 

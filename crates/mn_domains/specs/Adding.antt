@@ -1,5 +1,5 @@
 -- One more variable in a layout.
-use Rattle.std.specs.Prelude.{◌≡◌, List, [], ◌∷◌, ◌++◌}
+use Rattle.std.specs.Prelude.{◌≡◌, [], ◌∷◌, ◌++◌}
 use Rattle.mn_boxes.specs.Sets.{Variable}
 use Rattle.mn_domains.specs.Layouts.{AddsShape}
 use Rattle.mn_domains.specs.declared.layout.Layout.{Layout}

@@ -1,9 +1,8 @@
-use Rattle.std.proofs.Common.{◌≡◌, ◌+◌, ◌++◌, ◌∷◌, [], take, ap, subst, sym, ◌∙◌, arith}
+use Rattle.std.proofs.Common.{take}
 use Rattle.mn_model.specs.Problem.{variables_of}
 use Rattle.mn_boxes.specs.Boxes.{declared_variables}
 use Rattle.mn_boxes.specs.Sets.{is_bounded}
 use Rattle.mn_boxes.proofs.Declared.{lawful_variables}
-use Rattle.mn_domains.specs.Layouts.{AreShapesOf}
 use Rattle.mn_domains.proofs.Layers.{declared_at, shapes_push}
 use Rattle.mn_domains.proofs.layout.layout_of.Goals as goal
 

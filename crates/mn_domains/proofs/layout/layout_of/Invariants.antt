@@ -1,4 +1,4 @@
-use Rattle.std.proofs.Common.{◌≡◌, length, take}
+use Rattle.std.proofs.Common.{take}
 use Rattle.mn_boxes.specs.Boxes.{declared_variables}
 use Rattle.mn_domains.specs.Layouts.{AreShapesOf}
 use Rattle.mn_domains.proofs.layout.layout_of.Given as goal

@@ -1,4 +1,4 @@
-use Rattle.std.proofs.Common.{◌≡◌, ◌-◌, pos, slice_index_or, FitsSigned, rules, w64}
+use Rattle.std.proofs.Common.{◌-◌, pos, slice_index_or, FitsSigned, rules, w64}
 use Rattle.std.proofs.lemmas.Int.{to_z-of_z}
 use Rattle.mn_domains.proofs.Full.{listing_full}
 use Rattle.mn_domains.proofs.shape.full.Goals as goal

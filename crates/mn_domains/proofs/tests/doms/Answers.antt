@@ -1,4 +1,4 @@
-use Rattle.std.proofs.Common.{◌≡◌, ℤ, pos, length, ap, arith}
+use Rattle.std.proofs.Common.{pos, length, ap, arith}
 use Rattle.std.proofs.lemmas.Int.{ints}
 use Rattle.mn_model.proofs.Stretches.{length-stretch}
 use Rattle.mn_domains.proofs.tests.doms.Goals as goal

@@ -1,4 +1,4 @@
-use Rattle.std.proofs.Common.{◌+◌, ap, FitsSigned, rules, w64, arith}
+use Rattle.std.proofs.Common.{◌+◌, ap, FitsSigned, rules, w64}
 use Rattle.std.proofs.lemmas.Int.{to_z-of_z}
 use Rattle.mn_domains.proofs.Laying.{adds_bits}
 use Rattle.mn_domains.proofs.layout.Layout.row.Goals as goal

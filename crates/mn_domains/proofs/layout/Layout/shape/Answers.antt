@@ -1,6 +1,5 @@
-use Rattle.std.proofs.Common.{◌≡◌, ◌≤◌, ℤ, pos, inl, inr, length, FitsSigned, rules, w64, arith, subst, sym, ap, ◌∙◌}
+use Rattle.std.proofs.Common.{pos, inl, inr, FitsSigned, rules, w64}
 use Rattle.std.proofs.lemmas.Int.{to_z-of_z}
-use Rattle.mn_model.specs.declared.limits.TheConstants.{SPAN}
 use Rattle.mn_domains.proofs.Laying.{adds_stretch, two_values}
 use Rattle.mn_domains.proofs.layout.Layout.shape.Goals as goal
 

@@ -1,4 +1,4 @@
-use Rattle.std.proofs.Common.{◌≡◌, ◌+◌, ◌/◌, length, sym, ap, ◌∙◌, arith, refl}
+use Rattle.std.proofs.Common.{◌+◌, ◌/◌, length, ap, ◌∙◌, arith, refl}
 use Rattle.mn_domains.specs.Held.{sizes}
 use Rattle.mn_domains.proofs.Full.{length-full, made}
 use Rattle.mn_domains.proofs.state.State.full.Goals as goal
