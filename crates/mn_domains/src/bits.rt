@@ -1,5 +1,5 @@
 //! Bits in a row of words: bit `i` is bit `i % 64` of word `i / 64`.
-ghost use Rattle.std.specs.Prelude.{◌≡◌, ℕ, ◌*◌, ◌<◌, ◌≤◌, ◌==◌, true, false, length};
+ghost use Rattle.std.specs.Prelude.{◌≡◌, ◌≢◌, ℕ, ◌*◌, ◌<◌, ◌≤◌, ◌==◌, true, false, length, slice_index};
 ghost use Rattle.mn_domains.specs.Held.{bit_of};
 
 /// How many bits a word has.
@@ -13,6 +13,23 @@ pub fn is_set(words: &[u64], i: usize) -> bool
     (words[i / WIDTH] >> (i % WIDTH)) & 1 == 1
 }
 
+/// The first word from `at` on that isn't 0. Word `end` isn't.
+fn next_word(words: &[u64], at: usize, end: usize) -> usize
+    requires order { at ≤ end }
+    requires room { end < length words.now }
+    requires some { slice_index words.now end ≢ 0 }
+    ensures from { at ≤ result }
+    ensures within { result ≤ end }
+    ensures some { slice_index words.now result ≢ 0 }
+    ensures none { (k : ℕ) → at ≤ k → k < result → slice_index words.now k ≡ 0 }
+{
+    let mut word = at;
+    while words[word] == 0 {
+        word += 1;
+    }
+    word
+}
+
 /// The first set bit from `i` on. One is set at `end`.
 pub fn next_set(words: &[u64], i: usize, end: usize) -> usize
     requires order { i ≤ end }
@@ -23,11 +40,12 @@ pub fn next_set(words: &[u64], i: usize, end: usize) -> usize
     ensures set { bit_of words.now result ≡ true }
     ensures none { (k : ℕ) → i ≤ k → k < result → bit_of words.now k ≡ false }
 {
-    let mut at = i;
-    while !is_set(words, at) {
-        at += 1;
+    let rest = words[i / WIDTH] >> (i % WIDTH);
+    if rest != 0 {
+        return i + rest.trailing_zeros() as usize;
     }
-    at
+    let word = next_word(words, i / WIDTH + 1, end / WIDTH);
+    word * WIDTH + words[word].trailing_zeros() as usize
 }
 
 /// The last set bit up to `i`. One is set at `start`.
