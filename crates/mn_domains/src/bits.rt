@@ -48,6 +48,23 @@ pub fn next_set(words: &[u64], i: usize, end: usize) -> usize
     word * WIDTH + words[word].trailing_zeros() as usize
 }
 
+/// The last word before `at` that isn't 0. Word `start` isn't.
+fn previous_word(words: &[u64], at: usize, start: usize) -> usize
+    requires order { start < at }
+    requires room { at ≤ length words.now }
+    requires some { slice_index words.now start ≢ 0 }
+    ensures from { start ≤ result }
+    ensures within { result < at }
+    ensures some { slice_index words.now result ≢ 0 }
+    ensures none { (k : ℕ) → result < k → k < at → slice_index words.now k ≡ 0 }
+{
+    let mut word = at - 1;
+    while words[word] == 0 {
+        word -= 1;
+    }
+    word
+}
+
 /// The last set bit up to `i`. One is set at `start`.
 pub fn previous_set(words: &[u64], i: usize, start: usize) -> usize
     requires order { start ≤ i }
@@ -58,9 +75,13 @@ pub fn previous_set(words: &[u64], i: usize, start: usize) -> usize
     ensures set { bit_of words.now result ≡ true }
     ensures none { (k : ℕ) → result < k → k ≤ i → bit_of words.now k ≡ false }
 {
-    let mut at = i;
-    while !is_set(words, at) {
-        at -= 1;
+    if is_set(words, i) {
+        return i;
     }
-    at
+    let rest = words[i / WIDTH] % (1 << (i % WIDTH));
+    if rest != 0 {
+        return i / WIDTH * WIDTH + rest.ilog2() as usize;
+    }
+    let word = previous_word(words, i / WIDTH, start / WIDTH);
+    word * WIDTH + words[word].ilog2() as usize
 }
