@@ -1,5 +1,5 @@
 -- Sets of all that is declared.
-use Rattle.std.proofs.Common.{◌≡◌, ℕ, zero, suc, ◌+◌, ◌-◌, ◌*◌, ◌/◌, ◌%◌, ◌^◌, ◌<◌, ◌≤◌, ◌==◌, ℤ, pos, true, List, [], ◌∷◌, ◌++◌, length, map, filter, take, drop, replicate, slice_range, get_or, Some, refl, sym, subst, ap, ◌∙◌, arith}
+use Rattle.std.proofs.Common.{◌≡◌, ℕ, zero, suc, ◌+◌, ◌-◌, ◌*◌, ◌/◌, ◌%◌, ◌<◌, ◌≤◌, ◌==◌, ℤ, pos, true, List, [], ◌∷◌, ◌++◌, length, map, filter, take, drop, replicate, slice_range, get_or, Some, refl, sym, subst, ap, ◌∙◌, arith}
 use Rattle.std.proofs.lemmas.Int.{ints}
 use Rattle.std.proofs.lemmas.List.{get_or-drop, get_or-replicate, get_or-take, length-drop, length-replicate, length-take-le}
 use Rattle.std.proofs.lemmas.Nat.Bits.{bit_at_ones}
@@ -88,12 +88,7 @@ pub all_more_room : (listed : List ℤ) (room more : ℕ) (shapes : List Shape) 
 all_more_room listed room more [] le is = tt
 all_more_room listed room more (s ∷ shapes) le is = (more_room listed room more s le is.0, all_more_room listed room more shapes le is.1)
 
--- one shape by its place, with as much room as there may be
-pub shape_at : (listed : List ℤ) (room : ℕ) (shapes : List Shape) (i : ℕ) (shape : Shape) → room ≤ 2 ^ 60 → AllByRecursion (IsShape listed room) shapes → i < length shapes → shape ≡ get_or shapes i shape → IsShape listed (2 ^ 60) shape
-shape_at listed room [] i shape le is within at = absurd (omega arith)
-shape_at listed room (s ∷ shapes) zero shape le is within at = subst (IsShape listed (2 ^ 60)) (sym at) (more_room listed room (2 ^ 60) s le is.0)
-shape_at listed room (s ∷ shapes) (suc i) shape le is within at = shape_at listed room shapes i shape le is.1 (omega arith) at
-
+-- the sizes with one more
 pub sizes-push : (ends : List Ends) (e : Ends) → sizes (ends ++ e ∷ []) ≡ sizes ends + e.size
 sizes-push [] e = omega arith
 sizes-push (f ∷ ends) e = let rest = sizes-push ends e in omega arith

@@ -1,16 +1,16 @@
 -- How declared values come to be held.
-use Rattle.std.proofs.Common.{◌≡◌, ℕ, zero, suc, ◌+◌, ◌-◌, ◌^◌, ◌<◌, ◌≤◌, ℤ, pos, ◌+ℤ◌, ◌-ℤ◌, inl, inr, true, false, List, [], ◌∷◌, ◌++◌, length, take, drop, slice_get, slice_range, Some, refl, sym, subst, ap, ◌∙◌, arith}
+use Rattle.std.proofs.Common.{◌≡◌, ℕ, zero, suc, ◌+◌, ◌-◌, ◌^◌, ◌<◌, ◌≤◌, ℤ, pos, ◌+ℤ◌, ◌-ℤ◌, inl, inr, true, false, List, [], ◌∷◌, ◌++◌, length, take, slice_get, Some, refl, sym, subst, ap, ◌∙◌, arith}
 use Rattle.std.proofs.lemmas.Int.{ints}
-use Rattle.std.proofs.lemmas.List.{length-append, length-drop, take_at, drop_at, take_rest, take_all}
+use Rattle.std.proofs.lemmas.List.{take_all}
 use Rattle.std.specs.Int.{int_gap}
 use Rattle.std.specs.List.{AllByRecursion}
-use Rattle.mn_model.specs.Domain.{Ascends, Has, IsDomain, IsFirst, IsLast, IsValue, numbers_from, stretch}
+use Rattle.mn_model.specs.Domain.{Has, IsDomain, IsFirst, IsLast, IsValue, numbers_from, stretch}
 use Rattle.mn_model.specs.declared.limits.TheConstants.{SPAN}
 use Rattle.mn_model.proofs.Stretches.{length-numbers_from, length-stretch, plus-int_gap, slice_get-numbers_from}
 use Rattle.mn_boxes.proofs.Members.{stands_first, stands_last}
-use Rattle.mn_domains.specs.Held.{IsListing, IsSpan}
+use Rattle.mn_domains.specs.Held.{IsSpan}
 use Rattle.mn_domains.specs.Layouts.{AddsShape}
-use Rattle.mn_domains.specs.declared.shape.Shape.TheVariants.{Stretch, Listed, Bits}
+use Rattle.mn_domains.specs.declared.shape.Shape.TheVariants.{Stretch, Bits}
 use Rattle.mn_domains.proofs.Marks.{int_gap-plus}
 
 pub same_by_slice_get : (xs ys : List ℤ) → length xs ≡ length ys → ((k : ℕ) → k < length xs → slice_get xs k ≡ slice_get ys k) → xs ≡ ys
@@ -77,46 +77,6 @@ adds_bits listed xs bits behind lo hi a b domain is few small more first last =
       holds = ap (λ ys. record { declared = ys; bounded = false }) same;
       begins = refl;
       ends = omega arith;
-      few = omega arith;
-    }
-
--- the listing at the end of the listed values
-listing_at : (more xs : List ℤ) (from to : ℕ) → IsDomain xs → slice_range more from to ≡ xs → from < to → to ≤ length more → to ≤ from + SPAN → IsListing more from to
-listing_at more xs from to domain is filled within few = record {
-  filled = filled;
-  within = within;
-  ascends = subst Ascends (sym is) domain.ascends;
-  valued = subst (AllByRecursion IsValue) (sym is) domain.valued;
-  few = few;
-}
-
-pub adds_listing : (listed more xs : List ℤ) (bits from to : ℕ) → IsDomain xs → length xs ≤ SPAN → more ≡ listed ++ xs → from ≡ length listed → to ≡ length more → AddsShape listed more bits bits (record { declared = xs; bounded = true }) (Listed from to)
-adds_listing listed more xs bits from to domain few is at end =
-    let long : length more ≡ length listed + length xs = ap length is ∙ length-append listed xs in
-    let some : 1 ≤ length xs = some_of xs domain.filled in
-    let part : slice_range more from to ≡ xs = ap (λ ys. slice_range ys from to) is ∙ (ap (take (to - from)) (drop_at listed xs from (sym at)) ∙ take_all (to - from) xs (omega arith)) in
-    record {
-      grew = ap (take (length listed)) is ∙ take_at listed xs (length listed) refl;
-      shaped = listing_at more xs from to domain part (omega arith) (omega arith) (omega arith);
-      holds = ap (λ ys. record { declared = ys; bounded = true }) part;
-      begins = tt;
-      ends = refl;
-      few = omega arith;
-    }
-  where
-    some_of : (ys : List ℤ) → (ys ≡ [] → ⊥) → 1 ≤ length ys
-    some_of [] filled = absurd (filled refl)
-    some_of (y ∷ ys) filled = omega arith
-
-pub adds_again : (listed xs : List ℤ) (bits from : ℕ) → IsDomain xs → length xs ≤ SPAN → drop from listed ≡ xs → from < length listed → AddsShape listed listed bits bits (record { declared = xs; bounded = true }) (Listed from (length listed))
-adds_again listed xs bits from domain few is filled =
-    let part : slice_range listed from (length listed) ≡ xs = take_rest listed from ∙ is in
-    record {
-      grew = take_all (length listed) listed (omega arith);
-      shaped = listing_at listed xs from (length listed) domain part filled (omega arith) (omega (arith, ap length is, length-drop from listed));
-      holds = ap (λ ys. record { declared = ys; bounded = true }) part;
-      begins = tt;
-      ends = refl;
       few = omega arith;
     }
 

@@ -1,4 +1,4 @@
-use Rattle.std.proofs.Common.{◌≡◌, ◌+◌, ◌*◌, ◌/◌, ◌%◌, ◌^◌, ◌<◌, ◌≤◌, slice_index_or, rules, arith}
+use Rattle.std.proofs.Common.{◌/◌, ◌^◌, ◌<◌, slice_index_or, rules, arith}
 use Rattle.mn_domains.proofs.Words.{first_here, first_later, later_word, within_first}
 use Rattle.mn_domains.proofs.bits.next_set.Goals as goal
 

@@ -1,4 +1,4 @@
-use Rattle.std.proofs.Common.{◌≡◌, ◌*◌, ◌/◌, ◌%◌, ◌^◌, ◌<◌, ◌≤◌, slice_index_or, false, sym, ◌∙◌, arith}
+use Rattle.std.proofs.Common.{◌≡◌, ◌%◌, false, sym, ◌∙◌, arith}
 use Rattle.mn_domains.specs.Held.{bit_of}
 use Rattle.mn_domains.proofs.Words.{earlier_word, last_earlier, last_here, one_bit, within_last}
 use Rattle.mn_domains.proofs.bits.previous_set.Goals as goal
