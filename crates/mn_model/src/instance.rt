@@ -129,8 +129,7 @@ impl Instance {
         self.decls.reserve(1)?;
         self.names.insert(key, Entry::Declared(place))?;
         // Room for what follows was made above.
-        self.owners
-            .resize(self.owners.len() + size, place as u32)?;
+        self.owners.resize(self.owners.len() + size, place as u32)?;
         self.decls.push(Decl {
             name,
             dims,

@@ -14,8 +14,6 @@ use Rattle.mn_model.specs.declared.declaration.Decl.{Decl}
 use Rattle.mn_model.specs.declared.instance.Entry.TheVariants.{Declared, Aliased}
 use Rattle.mn_model.proofs.instance.Instance.find.Goals as goal
 
-
-
 pub returns-in_err-place-clause-found : goal.returns-in_err-place-clause-found
 returns-in_err-place-clause-found c = ap option_copied c.from_residual.ensures ∙ (sym (undeclared _ c.self.inside.names.entries c.self.inside.lists.entries c.self.inside.owners.items c.self.inside.cells c.self.invariant c.args.name.now c.in_err-place.ensures.value) ∙ ap (λ (p : Problem). declared_as p.decls c.args.name.now) c.self.view_is)
 

@@ -71,7 +71,7 @@ returns-in-Aliased-clause-place c =
     let is : slice_get c.self.inside.aliases.items c.in-Aliased.place ≡ Some c.index-in-Aliased.result.now = slice_get_read c.self.inside.aliases.items (length c.self.inside.aliases.items) c.in-Aliased.place c.index-in-Aliased.result.now refl (aliased_at _ c.self.inside.names.entries c.self.inside.lists.entries c.self.inside.owners.items c.self.inside.cells c.self.invariant c.args.name.now c.in-Aliased.place (ap Some (sym c.in-Aliased.is) ∙ c.in_ok-place.ensures.value)).0 c.index-in-Aliased.ensures in
     c.aliased_variable.ensures.place
     ∙ ((λ i. variable_by (sym (not_declared _ c.self.inside.names.entries c.self.inside.lists.entries c.self.inside.owners.items c.self.inside.cells c.self.invariant c.args.name.now c.in-Aliased.place (ap Some (sym c.in-Aliased.is) ∙ c.in_ok-place.ensures.value)) i)
-        (sym (aliased_is _ c.self.inside.names.entries c.self.inside.lists.entries c.self.inside.owners.items c.self.inside.cells c.self.invariant c.args.name.now c.in-Aliased.place c.index-in-Aliased.result.now (ap Some (sym c.in-Aliased.is) ∙ c.in_ok-place.ensures.value) is) i) c.args.subs.now)
+    (sym (aliased_is _ c.self.inside.names.entries c.self.inside.lists.entries c.self.inside.owners.items c.self.inside.cells c.self.invariant c.args.name.now c.in-Aliased.place c.index-in-Aliased.result.now (ap Some (sym c.in-Aliased.is) ∙ c.in_ok-place.ensures.value) is) i) c.args.subs.now)
     ∙ ap (λ (p : Problem). variable_named p c.args.name.now c.args.subs.now) c.self.view_is)
 
 pub returns-in-Aliased-clause-among : goal.returns-in-Aliased-clause-among
