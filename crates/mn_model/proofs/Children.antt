@@ -13,7 +13,7 @@ use Rattle.mn_model.specs.declared.constraint.Con.TheBlock.{more_of-Con, end_of-
 use Rattle.mn_model.specs.declared.constraint.Term.{Term}
 
 -- a constraint that a 0/1 term implies
-abbrev implied : Con → Term → Con
+abbrev pub implied : Con → Term → Con
 implied c r = made.Reifyimply' tt (more_of-Con c end_of-Con) r
 
 -- one more at the end
@@ -34,7 +34,7 @@ pub made_negated : (c : Con) → made.Negated c ≡ negated c
 unfolding Rattle.mn_model.specs.declared.constraint.Con.TheBlock.shape-the_row-Con-0 Rattle.mn_model.specs.declared.constraint.Con.TheBlock.hidden-the_row-Con-0 denote.Hole.Carrier.hidden
 made_negated c = refl
 
-made_implied : (c : Con) (r : Term) → made.Reifyimply c r ≡ implied c r
+pub made_implied : (c : Con) (r : Term) → made.Reifyimply c r ≡ implied c r
 unfolding Rattle.mn_model.specs.declared.constraint.Con.TheBlock.shape-the_row-Con-0 Rattle.mn_model.specs.declared.constraint.Con.TheBlock.hidden-the_row-Con-0 denote.Hole.Carrier.hidden
 made_implied c r = refl
 

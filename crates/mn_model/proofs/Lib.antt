@@ -5,6 +5,7 @@ pub mod Growing
 pub mod Kept
 pub mod Looking
 pub mod NameParts
+pub mod Near
 pub mod Sizes
 pub mod Stretches
 pub mod Variables

@@ -1,7 +1,12 @@
 // Worked examples, and that each call can succeed.
-ghost use Rattle.std.specs.Prelude.{◌≡◌, [], ◌∷◌, negsuc, pos, IfOk};
+ghost use Rattle.std.specs.Prelude.{◌≡◌, ◌≤◌, [], ◌∷◌, negsuc, pos, IfOk};
+ghost use Rattle.mn_model.specs.Lawful.{HasNearConstants};
+ghost use Rattle.mn_model.specs.Parts.{cell_count};
+ghost use Rattle.mn_model.specs.Variable.{variable};
+ghost use Rattle.mn_model.specs.declared.constraint.Term.TheVariants.{Var};
 
-use crate::{Con, Dims, Domain, Instance, Ints, Kind, Term, Text, VarId, is_name};
+use crate::{Con, Dims, Domain, Ints, Tab, Term, Terms, VarId, is_name, reverse};
+use sqlite_items::Boxed;
 use std::alloc::{AllocError, Global};
 use std::test::Fail;
 
@@ -47,41 +52,6 @@ fn a_stretch_has_its_values(rt: HostRuntime) {
     assert_eq!(rt; domain.nth(5), 2);
 }
 
-fn letter(alloc: Global, letter: char) -> Result<Text, AllocError>
-    ensures { IfOk result (λ text. text ≡ letter ∷ []) }
-{
-    let mut text = Text::new(alloc);
-    text.push(letter)?;
-    Ok(text)
-}
-
-fn two_by_three(alloc: Global) -> Result<Dims, AllocError>
-    ensures { IfOk result (λ dims. dims ≡ 2 ∷ 3 ∷ []) }
-{
-    let mut dims = Dims::new(alloc);
-    dims.push(2)?;
-    dims.push(3)?;
-    Ok(dims)
-}
-
-// A single variable `x` and a matrix `m`.
-fn problem(alloc: Global) -> Result<Instance, AllocError> {
-    let mut problem = Instance::empty(alloc)?;
-    let bit = Domain::stretch(alloc, 0, 1);
-    problem.declare(letter(alloc, 'x')?, Dims::new(alloc), Kind::Binary, bit)?;
-    if problem.find("m").is_some() {
-        return Instance::empty(alloc);
-    }
-    let sign = Domain::stretch(alloc, -1, 1);
-    problem.declare(
-        letter(alloc, 'm')?,
-        two_by_three(alloc)?,
-        Kind::Bounded,
-        sign,
-    )?;
-    Ok(problem)
-}
-
 fn three_values(alloc: Global) -> Result<Ints, AllocError>
     ensures { IfOk result (λ values. values ≡ negsuc 4 ∷ pos 0 ∷ pos 7 ∷ []) }
 {
@@ -111,42 +81,98 @@ fn listed_values_are_told(rt: HostRuntime) -> Result<(), Fail> {
     Ok(())
 }
 
+fn two_tuples(alloc: Global) -> Result<Ints, AllocError>
+    ensures { IfOk result (λ cells. cells ≡ pos 0 ∷ pos 1 ∷ pos 1 ∷ pos 0 ∷ []) }
+{
+    let mut cells = Ints::new(alloc);
+    cells.push(0)?;
+    cells.push(1)?;
+    cells.push(1)?;
+    cells.push(0)?;
+    Ok(cells)
+}
+
+fn var(n: u32) -> Term
+    ensures { result ≡ Var (variable n) }
+{
+    Term::Var(VarId::new(n))
+}
+
+fn pair(alloc: Global, x: Term, y: Term) -> Result<Terms, AllocError>
+    ensures { IfOk result (λ v. v ≡ x ∷ y ∷ []) }
+{
+    let mut terms = Terms::new(alloc);
+    terms.push(x)?;
+    terms.push(y)?;
+    Ok(terms)
+}
+
+fn table_here(alloc: Global) -> Result<Con, AllocError>
+    ensures { IfOk result (λ con. cell_count con ≤ 9) }
+{
+    let cells = two_tuples(alloc)?;
+    Ok(Con::Table(pair(alloc, var(0), var(1))?, Tab::Here { arity: 2, cells }))
+}
+
 #[test]
-fn a_place_is_found(rt: HostRuntime) -> Result<(), Fail> {
-    let problem = problem(rt.alloc())?;
-    let places: [(&str, &[u32], Option<u32>); 8] = [
-        ("m", &[1, 2], Some(6)),
-        ("m", &[0, 0], Some(1)),
-        ("m", &[2, 0], None),
-        ("m", &[0], None),
-        ("m", &[], None),
-        ("x", &[], Some(0)),
-        ("x", &[0], None),
-        ("y", &[], None),
-    ];
-    for (name, subs, want) in places {
-        assert_eq!(rt;
-            problem.var(name, subs).map(|v| v.number()),
-            want,
-            "{name}{subs:?}"
-        );
-    }
-    assert_eq!(rt; problem.var("m", &[0, 2]), Some(VarId::new(3)));
-    assert_eq!(rt; problem.vars(), 7);
-    assert_eq!(rt; problem.decls().len(), 2);
-    assert!(rt; problem.find("y").is_none());
+fn cells_are_counted(rt: HostRuntime) -> Result<(), Fail> {
+    let table = table_here(rt.alloc())?;
+    assert_eq!(rt; table.cells(), 4);
+    let named = Con::Negativetable(pair(rt.alloc(), var(0), var(1))?, Tab::Named(0));
+    assert_eq!(rt; named.cells(), 0);
     Ok(())
 }
 
 #[test]
-fn a_constraint_is_added(rt: HostRuntime) -> Result<(), Fail> {
-    let mut problem = problem(rt.alloc())?;
-    let last = problem.var("m", &[1, 2]).ok_or("m")?;
-    assert!(rt; last.number() < problem.vars());
-    assert_eq!(rt; problem.kind(last), Kind::Bounded);
-    assert_eq!(rt; problem.domain(last).lo(), -1);
-    assert_eq!(rt; problem.cons().len(), 0);
-    problem.add(Con::Eq(Term::Var(last), Term::Const(1)))?;
-    assert_eq!(rt; problem.cons().len(), 1);
+fn an_order_is_reversed(rt: HostRuntime) -> Result<(), Fail> {
+    let reversed = reverse(rt.alloc(), &Con::Ineq(var(0), var(1), -1))?;
+    let Con::Ineq(x, y, k) = &reversed else {
+        return Err(Fail::new("ineq"));
+    };
+    assert_eq!(rt; *x, var(1));
+    assert_eq!(rt; *y, var(0));
+    assert_eq!(rt; *k, 0);
+    Ok(())
+}
+
+#[test]
+fn a_product_is_negated(rt: HostRuntime) -> Result<(), Fail> {
+    let reversed = reverse(rt.alloc(), &Con::Product(var(0), var(1), var(2)))?;
+    let Con::Negated(part) = &reversed else {
+        return Err(Fail::new("negated"));
+    };
+    assert!(rt; matches!(part.get(), Con::Product(_, _, Term::Var(z)) if z.number() == 2));
+    Ok(())
+}
+
+#[test]
+fn a_sum_is_reversed(rt: HostRuntime) -> Result<(), Fail> {
+    let sum = Con::Sumleq(pair(rt.alloc(), var(0), var(1))?, var(2));
+    let reversed = reverse(rt.alloc(), &sum)?;
+    let Con::Weightedsumgeq(ks, v, x) = &reversed else {
+        return Err(Fail::new("weightedsumgeq"));
+    };
+    assert_eq!(rt; ks.as_slice(), [1, 1, -1].as_slice());
+    assert_eq!(rt; v.as_slice(), [var(0), var(1), var(2)].as_slice());
+    assert_eq!(rt; *x, Term::Const(1));
+    Ok(())
+}
+
+// That a 0/1 variable is 1 exactly where two others are equal.
+fn reified(alloc: Global) -> Result<Con, AllocError>
+    ensures { IfOk result (λ con. HasNearConstants con) }
+{
+    let equal = Con::Eq(var(0), var(1));
+    Ok(Con::Reify(Boxed::new(alloc, equal)?, var(2)))
+}
+
+#[test]
+fn a_reified_constraint_is_reversed(rt: HostRuntime) -> Result<(), Fail> {
+    let reversed = reverse(rt.alloc(), &reified(rt.alloc())?)?;
+    let Con::Reify(part, r) = &reversed else {
+        return Err(Fail::new("reify"));
+    };
+    assert!(rt; matches!(part.get(), Con::Eq(_, _)));
+    assert_eq!(rt; *r, Term::Not(VarId::new(2)));
     Ok(())
 }
