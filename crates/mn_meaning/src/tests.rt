@@ -1,6 +1,7 @@
 // Cases that were worked out by hand from what the language says of each form.
 ghost use Rattle.std.specs.Prelude.{◌≡◌, ◌%◌, [], pos, IfOk};
 ghost use Rattle.mn_model.specs.Lawful.{IsMeant};
+ghost use Rattle.mn_model.specs.declared.constraint.Term.TheVariants.{Const};
 
 use crate::counts::{agreeing, all_differ, differing, distinct_count, occurrences};
 use crate::orders::{is_below, is_entry, is_greatest, is_least};
@@ -29,7 +30,7 @@ fn says(con: &Con) -> bool
 }
 
 fn number(k: i8) -> Term
-    ensures { result ≡ Rattle.mn_model.specs.declared.constraint.Term.TheVariants.Const k }
+    ensures { result ≡ Const k }
 {
     Term::Const(i64::from(k))
 }
@@ -54,6 +55,22 @@ fn forms_of_two_numbers(rt: HostRuntime) {
     }
 }
 
+fn divides(x: i8, y: i8, z: i8) -> bool {
+    says(&Con::Div(number(x), number(y), number(z)))
+}
+
+fn leaves(x: i8, y: i8, z: i8) -> bool {
+    says(&Con::Modulo(number(x), number(y), number(z)))
+}
+
+fn is_apart(x: i8, y: i8, z: i8) -> bool {
+    says(&Con::Difference(number(x), number(y), number(z)))
+}
+
+fn multiplies(x: i8, y: i8, z: i8) -> bool {
+    says(&Con::Product(number(x), number(y), number(z)))
+}
+
 #[test]
 fn quotients_are_rounded_down(rt: HostRuntime) {
     for (x, y, quotient, left) in [
@@ -65,14 +82,14 @@ fn quotients_are_rounded_down(rt: HostRuntime) {
         (-6, 3, -2, 0),
         (0, -5, 0, 0),
     ] {
-        assert!(rt; says(&Con::Div(number(x), number(y), number(quotient))));
-        assert!(rt; says(&Con::Modulo(number(x), number(y), number(left))));
-        assert!(rt; !says(&Con::Div(number(x), number(y), number(9))));
-        assert!(rt; !says(&Con::Modulo(number(x), number(y), number(9))));
+        assert!(rt; divides(x, y, quotient));
+        assert!(rt; leaves(x, y, left));
+        assert!(rt; !divides(x, y, 9));
+        assert!(rt; !leaves(x, y, 9));
     }
     for z in [-1, 0, 1, 5] {
-        assert!(rt; !says(&Con::Div(number(5), number(0), number(z))));
-        assert!(rt; !says(&Con::Modulo(number(5), number(0), number(z))));
+        assert!(rt; !divides(5, 0, z));
+        assert!(rt; !leaves(5, 0, z));
     }
 }
 
@@ -84,10 +101,10 @@ fn forms_of_three_numbers(rt: HostRuntime) {
         (-5, -2, 3, 10),
         (0, 6, 6, 0),
     ] {
-        assert!(rt; says(&Con::Difference(number(x), number(y), number(apart))));
-        assert!(rt; !says(&Con::Difference(number(x), number(y), number(-1))));
-        assert!(rt; says(&Con::Product(number(x), number(y), number(product))));
-        assert!(rt; !says(&Con::Product(number(x), number(y), number(11))));
+        assert!(rt; is_apart(x, y, apart));
+        assert!(rt; !is_apart(x, y, -1));
+        assert!(rt; multiplies(x, y, product));
+        assert!(rt; !multiplies(x, y, 11));
     }
 }
 
