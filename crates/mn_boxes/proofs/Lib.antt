@@ -1,0 +1,4 @@
+pub mod Declared
+pub mod Members
+pub mod Quiet
+pub mod Totals

@@ -1,0 +1,5 @@
+pub mod Boxes
+pub mod Events
+pub mod Laws
+pub mod Places
+pub mod Sets

@@ -1,0 +1,22 @@
+//! Sets, boxes and events: what a solver speaks of while it narrows the values of the variables.
+//!
+//! A set is the ascending list of the values that a variable has left, a box is one set for each variable, and an event
+//! is a way in which a set may have changed. The definitions are in `specs/`, and the crates above cite them: `IsSetOf`,
+//! `IsBox`, `Inside`, `PlaceHas`, `Fires` and `IsMoved`. The functions are laws of these definitions and do nothing, but for
+//! `is_bounded`, which tells the two sorts of variables apart.
+//!
+//! The crate stands on `mn_model`, whose declarations say which values and which kind a variable has.
+#![tactic(auto)]
+
+mod change;
+mod kind;
+mod laws;
+#[cfg(test)]
+mod tests;
+
+pub use change::Moved;
+pub use kind::is_bounded;
+pub use laws::{
+    as_many_are_the_same, declared_sets_are_a_box, events_are_changes, inside_passes_on,
+    quiet_events_tell,
+};

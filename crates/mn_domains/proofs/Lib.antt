@@ -1,0 +1,14 @@
+pub mod BoxLemmas
+pub mod Emptying
+pub mod EndLemmas
+pub mod Filtered
+pub mod Full
+pub mod Layers
+pub mod Laying
+pub mod Marks
+pub mod Parts
+pub mod Put
+pub mod ShapeLemmas
+pub mod Standing
+pub mod Unmarking
+pub mod Words

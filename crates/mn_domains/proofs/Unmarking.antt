@@ -1,0 +1,274 @@
+-- A value of one variable is taken out by its bit.
+use Rattle.std.proofs.Common.{◌≡◌, ℕ, zero, suc, ◌+◌, ◌-◌, ◌*◌, ◌/◌, ◌<◌, ◌≤◌, ℤ, ◌<ℤ◌, ◌≤ℤ◌, ◌⊎◌, inl, inr, Bool, true, false, true≢false, IsTrue, List, [], ◌∷◌, ◌++◌, length, map, filter, slice_get, slice_set, get_or, Some, Ok, refl, sym, subst, ap, ◌∙◌, arith}
+use Rattle.std.proofs.lemmas.Int.{ints}
+use Rattle.std.proofs.lemmas.List.{length-set, set-get_or}
+use Rattle.std.specs.Int.{int_gap}
+use Rattle.std.specs.List.{AllByRecursion, AllZip}
+use Rattle.mn_model.specs.Domain.{Has, stretch}
+use Rattle.mn_model.proofs.Stretches.{Has-stretch, plus-int_gap}
+use Rattle.mn_boxes.specs.Boxes.{count_of, set_of}
+use Rattle.mn_boxes.specs.Events.{IsMoved}
+use Rattle.mn_boxes.specs.Sets.{IsEnd, MayGo, Variable}
+use Rattle.mn_boxes.specs.declared.change.Moved.{Moved}
+use Rattle.mn_domains.specs.Changes.{Changed, is_not}
+use Rattle.mn_domains.specs.Held.{AreApartFrom, AreEndsOf, IsHeld, IsKept, IsShape, IsState, TellsBit, bit_of, cleared, has_bit, is_bounded_shape, marked, sets_held, sets_of_state, values_held, variable_held}
+use Rattle.mn_domains.specs.Sets.{Sets}
+use Rattle.mn_domains.specs.States.{Unmarks, UnmarksIf, one_less}
+use Rattle.mn_domains.specs.declared.shape.Ends.{Ends}
+use Rattle.mn_domains.specs.declared.shape.Shape.{Shape}
+use Rattle.mn_domains.specs.declared.shape.Shape.TheVariants.{Stretch, Listed, Bits}
+use Rattle.mn_domains.specs.declared.state.State.{State}
+use Rattle.mn_domains.proofs.Filtered.{Passes, filter_alike, is_filter, is_not_so, is_not_true, length-without}
+use Rattle.mn_domains.proofs.Marks.{Ascends-marked, high_mark, is_marked, low_mark, marked_ends, marked_has}
+use Rattle.mn_domains.proofs.Put.{PutAt, changed_put, count_of-set, kept_put, moved_sets}
+use Rattle.mn_domains.proofs.ShapeLemmas.{without_none}
+use Rattle.mn_domains.proofs.Standing.{known, seen, length-sets_held, stands_at}
+use Rattle.mn_domains.proofs.Words.{bit_of-cleared, bit_of-cleared_other}
+
+-- bit i isn't one of the shape's
+abbrev pub Outside : ℕ → Shape → Type 0
+Outside i (Stretch lo hi) = Unit {0}
+Outside i (Listed from to) = Unit {0}
+Outside i (Bits lo hi at) = (i < at) ⊎ (at + int_gap lo hi < i)
+
+-- the bits differ at i alone
+abbrev pub DifferAt : ℕ → List ℕ → List ℕ → Type 0
+DifferAt i bits new = (k : ℕ) → (k ≡ i → ⊥) → bit_of new k ≡ bit_of bits k
+
+values_same : (listed : List ℤ) (bits new : List ℕ) (i room : ℕ) (shape : Shape) (e : Ends) → DifferAt i bits new → Outside i shape → IsShape listed room shape → IsHeld listed bits shape e → values_held listed new shape e ≡ values_held listed bits shape e
+values_same listed bits new i room (Stretch lo hi) e differ out is held = refl
+values_same listed bits new i room (Listed from to) e differ out is held = refl
+values_same listed bits new i room (Bits lo hi at) e differ out is held = filter_alike (has_bit new lo at) (has_bit bits lo at) (stretch e.lo e.hi) (λ a has. differ (at + int_gap lo a) (other a has out))
+  where
+    other : (a : ℤ) → Has (stretch e.lo e.hi) a → (i < at) ⊎ (at + int_gap lo hi < i) → at + int_gap lo a ≡ i → ⊥
+    other a has (inl before) same = omega arith
+    other a has (inr behind) same =
+        let b = (Has-stretch e.lo e.hi a held.ends.ordered).0 has in
+        let s = plus-int_gap lo a (omega (arith, ints, b.0, held.within.0)) in
+        let t = plus-int_gap lo hi is.0.ordered in
+        omega (arith, ints, s, t, b.1, held.within.1, behind, same)
+
+held_same : (listed : List ℤ) (bits new : List ℕ) (i room : ℕ) (shape : Shape) (e : Ends) → DifferAt i bits new → Outside i shape → IsShape listed room shape → IsHeld listed bits shape e → IsHeld listed new shape e
+held_same listed bits new i room shape e differ out is held = record { ends = subst (λ xs. AreEndsOf xs e) (sym (values_same listed bits new i room shape e differ out is held)) held.ends; within = held.within }
+
+-- what is behind a variable's bits, and how it stands to later ones
+record Behind (n : ℕ) (s : Shape) (shapes : List Shape) : Type 0 where
+  from : ℕ
+  apart : AreApartFrom from shapes
+  later : (at i : ℕ) → from ≤ at → at ≤ i → Outside i s
+  front : (i : ℕ) → i < n → Outside i s
+  more : n ≤ from
+
+behind : (n : ℕ) (s : Shape) (shapes : List Shape) → AreApartFrom n (s ∷ shapes) → Behind n s shapes
+behind n (Stretch lo hi) shapes apart = record { from = n; apart = apart; later = λ at i le order. tt; front = λ i less. tt; more = omega arith }
+behind n (Listed from to) shapes apart = record { from = n; apart = apart; later = λ at i le order. tt; front = λ i less. tt; more = omega arith }
+behind n (Bits lo hi at) shapes apart = record { from = at + int_gap lo hi + 1; apart = apart.1; later = λ b i le order. inr (omega arith); front = λ i less. inl (omega (arith, apart.0)); more = omega (arith, apart.0) }
+
+-- the sets of the variables whose bits are all behind bit i
+record AllSame (listed : List ℤ) (bits new : List ℕ) (shapes : List Shape) (ends : List Ends) : Type 0 where
+  sets : sets_held listed new shapes ends ≡ sets_held listed bits shapes ends
+  held : AllZip (IsHeld listed new) shapes ends
+
+all_same : (listed : List ℤ) (bits new : List ℕ) (i room n : ℕ) (shapes : List Shape) (ends : List Ends) → DifferAt i bits new → AreApartFrom n shapes → i < n → AllByRecursion (IsShape listed room) shapes → AllZip (IsHeld listed bits) shapes ends → AllSame listed bits new shapes ends
+all_same listed bits new i room n [] [] differ apart less is held = record { sets = refl; held = tt }
+all_same listed bits new i room n [] (e ∷ ends) differ apart less is held = absurd held
+all_same listed bits new i room n (s ∷ shapes) [] differ apart less is held = absurd held
+all_same listed bits new i room n (s ∷ shapes) (e ∷ ends) differ apart less is held =
+    let b = behind n s shapes apart in
+    let more = b.more in
+    let rest = all_same listed bits new i room b.from shapes ends differ b.apart (omega arith) is.1 held.1 in
+    let out = b.front i less in
+    let here : values_held listed new s e ≡ values_held listed bits s e = values_same listed bits new i room s e differ out is.0 held.0 in
+    let there = rest.sets in
+    record { sets = cc; held = (held_same listed bits new i room s e differ out is.0 held.0, rest.held) }
+
+-- a marked set's bits begin behind those before it
+begins_behind : (n : ℕ) (shapes : List Shape) (v : ℕ) (lo hi : ℤ) (at : ℕ) → AreApartFrom n shapes → v < length shapes → Bits lo hi at ≡ get_or shapes v (Bits lo hi at) → n ≤ at
+begins_behind n [] v lo hi at apart within is = absurd (omega arith)
+begins_behind n (s ∷ shapes) zero lo hi at apart within is = (subst (λ (t : Shape). AreApartFrom n (t ∷ shapes)) (sym is) apart).0
+begins_behind n (s ∷ shapes) (suc v) lo hi at apart within is = let b = behind n s shapes apart in let more = b.more in let le = begins_behind b.from shapes v lo hi at b.apart (omega arith) is in omega arith
+
+-- the sets after bit i, one of variable v, was changed
+record ChangedAt (listed : List ℤ) (bits new : List ℕ) (shapes : List Shape) (ends : List Ends) (v : ℕ) (shape : Shape) (e : Ends) : Type 0 where
+  sets : sets_held listed new shapes (slice_set ends v e) ≡ slice_set (sets_held listed bits shapes ends) v (values_held listed new shape e)
+  held : AllZip (IsHeld listed new) shapes (slice_set ends v e)
+
+changed_at : (listed : List ℤ) (bits new : List ℕ) (i room n : ℕ) (shapes : List Shape) (ends : List Ends) (v : ℕ) (lo hi : ℤ) (at : ℕ) (e : Ends) → DifferAt i bits new → AreApartFrom n shapes → AllByRecursion (IsShape listed room) shapes → AllZip (IsHeld listed bits) shapes ends
+    → v < length shapes → Bits lo hi at ≡ get_or shapes v (Bits lo hi at) → at ≤ i → i ≤ at + int_gap lo hi → IsHeld listed new (Bits lo hi at) e → ChangedAt listed bits new shapes ends v (Bits lo hi at) e
+changed_at listed bits new i room n [] ends v lo hi at e differ apart is held within here low high new_held = absurd (omega arith)
+changed_at listed bits new i room n (s ∷ shapes) [] v lo hi at e differ apart is held within here low high new_held = absurd held
+changed_at listed bits new i room n (s ∷ shapes) (f ∷ ends) zero lo hi at e differ apart is held within here low high new_held =
+    let apart_here = subst (λ (t : Shape). AreApartFrom n (t ∷ shapes)) (sym here) apart in
+    let rest = all_same listed bits new i room (at + int_gap lo hi + 1) shapes ends differ apart_here.1 (omega arith) is.1 held.1 in
+    let there = rest.sets in
+    record {
+      sets = ap (λ (t : Shape). values_held listed new t e ∷ sets_held listed new shapes ends) (sym here) ∙ ap (λ box. values_held listed new (Bits lo hi at) e ∷ box) there;
+      held = (subst (λ (t : Shape). IsHeld listed new t e) here new_held, rest.held);
+    }
+changed_at listed bits new i room n (s ∷ shapes) (f ∷ ends) (suc v) lo hi at e differ apart is held within here low high new_held =
+    let b = behind n s shapes apart in
+    let le = begins_behind b.from shapes v lo hi at b.apart (omega arith) here in
+    let out = b.later at i le low in
+    let rest = changed_at listed bits new i room b.from shapes ends v lo hi at e differ b.apart is.1 held.1 (omega arith) here low high new_held in
+    let first : values_held listed new s f ≡ values_held listed bits s f = values_same listed bits new i room s f differ out is.0 held.0 in
+    let there = rest.sets in
+    record { sets = cc; held = (held_same listed bits new i room s f differ out is.0 held.0, rest.held) }
+
+-- ---- the set itself
+
+record InnerOut (bits new : List ℕ) (lo : ℤ) (at : ℕ) (e : Ends) (a : ℤ) : Type 0 where
+  ends : AreEndsOf (marked new lo at (one_less e)) (one_less e)
+  values : marked new lo at (one_less e) ≡ filter (is_not a) (marked bits lo at e)
+
+-- other values have other bits
+other_bit : (lo : ℤ) (at : ℕ) (a b : ℤ) → lo ≤ℤ a → lo ≤ℤ b → (b ≡ a → ⊥) → at + int_gap lo b ≡ at + int_gap lo a → ⊥
+other_bit lo at a b low_a low_b differs same = let s = plus-int_gap lo a low_a in let t = plus-int_gap lo b low_b in differs (omega (arith, ints, s, t, same))
+
+inner_out : (bits new : List ℕ) (lo : ℤ) (at : ℕ) (e : Ends) (a : ℤ) → lo ≤ℤ e.lo → AreEndsOf (marked bits lo at e) e → e.lo <ℤ a → a <ℤ e.hi → has_bit bits lo at a ≡ true → has_bit new lo at a ≡ false → DifferAt (at + int_gap lo a) bits new → InnerOut bits new lo at e a
+inner_out bits new lo at e a low ends above below set gone differ =
+    let there : Has (marked bits lo at e) a = marked_has bits lo at e a ends.ordered (record { low = omega (arith, ints, above); high = omega (arith, ints, below); mark = set }) in
+    let values : marked new lo at (one_less e) ≡ filter (is_not a) (marked bits lo at e) = is_filter (is_not a) (marked bits lo at e) (marked new lo at (one_less e)) (Ascends-marked bits lo at e) (Ascends-marked new lo at (one_less e)) to from in
+    let len = length-without (marked bits lo at e) a (Ascends-marked bits lo at e) there in
+    let size : e.size - 1 ≡ length (marked new lo at (one_less e)) = let same = ap length values in let was = ends.size in omega arith in
+    record {
+      values = values;
+      ends = marked_ends new lo at (one_less e) ends.ordered (same_bit e.lo low (λ is. omega (arith, ints, above, is)) ∙ low_mark bits lo at e ends) (same_bit e.hi (omega (arith, ints, low, ends.ordered)) (λ is. omega (arith, ints, below, is)) ∙ high_mark bits lo at e ends) size;
+    }
+  where
+    same_bit : (b : ℤ) → lo ≤ℤ b → (b ≡ a → ⊥) → has_bit new lo at b ≡ has_bit bits lo at b
+    same_bit b from differs = differ (at + int_gap lo b) (other_bit lo at a b (omega (arith, ints, low, above)) from differs)
+
+    to : (b : ℤ) → Has (marked new lo at (one_less e)) b → Passes (is_not a) (marked bits lo at e) b
+    to b has =
+        let m = is_marked new lo at (one_less e) b ends.ordered has in
+        let differs : b ≡ a → ⊥ = λ is. true≢false (sym m.mark ∙ (ap (has_bit new lo at) is ∙ gone)) in
+        record { has = marked_has bits lo at e b ends.ordered (record { low = m.low; high = m.high; mark = sym (same_bit b (omega (arith, ints, low, m.low)) differs) ∙ m.mark }); passes = is_not_true a b differs }
+
+    from : (b : ℤ) → Has (marked bits lo at e) b → is_not a b ≡ true → Has (marked new lo at (one_less e)) b
+    from b has pass =
+        let m = is_marked bits lo at e b ends.ordered has in
+        marked_has new lo at (one_less e) b ends.ordered (record { low = m.low; high = m.high; mark = same_bit b (omega (arith, ints, low, m.low)) (is_not_so a b pass) ∙ m.mark })
+
+-- ---- the whole state
+
+pub record Unmarked (listed : List ℤ) (shapes : List Shape) (new : State) (saved : List State) (s : Sets) (v : ℕ) (a : ℤ) (moved : Moved) : Type 0 where
+  pub kept : IsKept listed shapes new saved
+  pub changed : Changed (is_not a) v s (seen listed shapes new saved) (Ok moved)
+
+-- where the bit wasn't set nothing changed
+unmarked_none : (listed : List ℤ) (shapes : List Shape) (old new : State) (saved : List State) (s : Sets) (v : ℕ) (lo hi : ℤ) (at : ℕ) (e : Ends) (a : ℤ) (moved : Moved) → seen listed shapes old saved ≡ s → IsKept listed shapes old saved → v < length s.sets
+    → Bits lo hi at ≡ get_or shapes v (Bits lo hi at) → e ≡ get_or old.ends.items v e → has_bit old.bits.items lo at a ≡ false
+    → UnmarksIf false old new v e (at + int_gap lo a) moved → Unmarked listed shapes new saved s v a moved
+unmarked_none listed shapes old new saved s v lo hi at e a moved view kept_old within at_shape at_ends clear u =
+    let k = known listed shapes old saved s v (Bits lo hi at) e view kept_old within at_shape at_ends in
+    let same : slice_set old.ends.items v e ≡ old.ends.items = ap (slice_set old.ends.items v) at_ends ∙ set-get_or old.ends.items v e in
+    let put : PutAt old new v e e = record { ends = u.1 ∙ sym same; bits = u.0; left = ap (λ n. n + e.size) u.2 } in
+    let values : marked old.bits.items lo at e ≡ filter (is_not a) (marked old.bits.items lo at e) = without_none (marked old.bits.items lo at e) a (λ has. true≢false (sym (is_marked old.bits.items lo at e a k.held.ends.ordered has).mark ∙ clear)) in
+    record {
+      kept = kept_put listed shapes old new saved s v (Bits lo hi at) e e view kept_old within at_shape at_ends k.held put;
+      changed = changed_put listed shapes old new saved s v (Bits lo hi at) e e (is_not a) moved view kept_old within at_shape at_ends k.held values put u.3;
+    }
+
+-- where it was set the value is gone
+unmarked_one : (listed : List ℤ) (shapes : List Shape) (old new : State) (saved : List State) (s : Sets) (v : ℕ) (lo hi : ℤ) (at : ℕ) (e : Ends) (a : ℤ) (moved : Moved) → seen listed shapes old saved ≡ s → IsKept listed shapes old saved → v < length s.sets
+    → Bits lo hi at ≡ get_or shapes v (Bits lo hi at) → e ≡ get_or old.ends.items v e → e.lo <ℤ a → a <ℤ e.hi → has_bit old.bits.items lo at a ≡ true
+    → UnmarksIf true old new v e (at + int_gap lo a) moved → Unmarked listed shapes new saved s v a moved
+unmarked_one listed shapes old new saved s v lo hi at e a moved view kept_old within at_shape at_ends above below set u =
+    let k = known listed shapes old saved s v (Bits lo hi at) e view kept_old within at_shape at_ends in
+    let st = stands_at listed shapes old saved s v view kept_old within in
+    let i = at + int_gap lo a in
+    let bits = old.bits.items in
+    let gap_a = plus-int_gap lo a (omega (arith, ints, k.held.within.0, above)) in
+    let gap_hi = plus-int_gap lo hi k.shaped.0.ordered in
+    let last : i ≤ at + int_gap lo hi = omega (arith, ints, gap_a, gap_hi, below, k.held.within.1) in
+    let room : i < 64 * length bits = let r = k.shaped.1.within in omega arith in
+    let differ : DifferAt i bits (cleared bits i) = λ n other. bit_of-cleared_other bits i n room other in
+    let out = inner_out bits (cleared bits i) lo at e a k.held.within.0 k.held.ends above below set (bit_of-cleared bits i room) differ in
+    let new_held : IsHeld listed (cleared bits i) (Bits lo hi at) (one_less e) = record { ends = out.ends; within = k.held.within } in
+    let ch = changed_at listed bits (cleared bits i) i (64 * length bits) 0 shapes old.ends.items v lo hi at (one_less e) differ kept_old.apart kept_old.shaped kept_old.current.held st.in_shapes at_shape (omega arith) last new_held in
+    let box = sets_held listed bits shapes old.ends.items in
+    let back : set_of box v ≡ marked bits lo at e = ap (λ (t : Sets). set_of t.sets v) view ∙ k.set in
+    let sets : sets_held listed (cleared bits i) shapes (slice_set old.ends.items v (one_less e)) ≡ slice_set box v (filter (is_not a) (marked bits lo at e)) = ch.sets ∙ ap (slice_set box v) out.values in
+    let long : length box ≡ length shapes = length-sets_held listed bits shapes old.ends.items kept_old.current.held in
+    let in_shapes = st.in_shapes in
+    let there : Has (marked bits lo at e) a = marked_has bits lo at e a k.held.ends.ordered (record { low = omega (arith, ints, above); high = omega (arith, ints, below); mark = set }) in
+    let len = length-without (marked bits lo at e) a (Ascends-marked bits lo at e) there in
+    let count = count_of-set box v (filter (is_not a) (marked bits lo at e)) (omega arith) in
+    let was = kept_old.current.counted in
+    let left : new.left ≡ count_of (slice_set box v (filter (is_not a) (marked bits lo at e))) = let one = u.2 in let size = ap length back in omega arith in
+    let state : IsState listed shapes (slice_set old.ends.items v (one_less e)) (cleared bits i) new.left = record { held = ch.held; counted = left ∙ ap count_of (sym sets) } in
+    let rows : length new.bits.items ≡ length bits = ap length u.0 ∙ length-set bits (i / 64) _ in
+    let after_ends : AreEndsOf (filter (is_not a) (marked bits lo at e)) (one_less e) = subst (λ ys. AreEndsOf ys (one_less e)) out.values out.ends in
+    let sets_new : sets_of_state listed shapes new ≡ slice_set box v (filter (is_not a) (marked bits lo at e)) =
+    ap (λ (es : List Ends). sets_held listed new.bits.items shapes es) u.1 ∙ (ap (λ bs. sets_held listed bs shapes (slice_set old.ends.items v (one_less e))) u.0 ∙ sets) in
+    let change : Changed (is_not a) v (seen listed shapes old saved) (seen listed shapes new saved) (Ok moved) = (
+      λ none. some (set_of box v) back after_ends none,
+      ap (λ b. record { vars = map (variable_held listed) shapes; sets = b; saved = map (sets_of_state listed shapes) saved }) (sets_new ∙ ap (λ ys. slice_set box v (filter (is_not a) ys)) (sym back)),
+      subst (λ ys. IsMoved ys (filter (is_not a) ys) moved) (sym back) (moved_sets (marked bits lo at e) (is_not a) e (one_less e) moved (Ascends-marked bits lo at e) k.held.ends after_ends u.3),
+    ) in
+    record {
+      kept = record {
+        shaped = subst (λ n. AllByRecursion (IsShape listed (64 * n)) shapes) (sym rows) kept_old.shaped;
+        apart = kept_old.apart;
+        current = subst (λ (es : List Ends). IsState listed shapes es new.bits.items new.left) (sym u.1) (subst (λ (bs : List ℕ). IsState listed shapes (slice_set old.ends.items v (one_less e)) bs new.left) (sym u.0) state);
+        before = subst (λ n. AllByRecursion (λ t. IsState listed shapes t.ends.items t.bits.items t.left × (length t.bits.items ≡ n)) saved) (sym rows) kept_old.before;
+      };
+      changed = subst (λ (t : Sets). Changed (is_not a) v t (seen listed shapes new saved) (Ok moved)) view change;
+    }
+  where
+    some : (ys : List ℤ) → ys ≡ marked old.bits.items lo at e → AreEndsOf (filter (is_not a) (marked old.bits.items lo at e)) (one_less e) → filter (is_not a) ys ≡ [] → ⊥
+    some ys is ends none =
+        let empty : filter (is_not a) (marked old.bits.items lo at e) ≡ [] = ap (filter (is_not a)) (sym is) ∙ none in
+        let first : slice_get (filter (is_not a) (marked old.bits.items lo at e)) 0 ≡ Some e.lo = ends.first in
+        let absent : slice_get [] 0 ≡ Some e.lo = ap (λ zs. slice_get zs 0) (sym empty) ∙ first in
+        cc
+
+pub unmarked : (listed : List ℤ) (shapes : List Shape) (old new : State) (saved : List State) (s : Sets) (v : ℕ) (lo hi : ℤ) (at : ℕ) (e : Ends) (a : ℤ) (moved : Moved) → seen listed shapes old saved ≡ s → IsKept listed shapes old saved → v < length s.sets
+    → Bits lo hi at ≡ get_or shapes v (Bits lo hi at) → e ≡ get_or old.ends.items v e → e.lo <ℤ a → a <ℤ e.hi → Unmarks old new v e (at + int_gap lo a) moved → Unmarked listed shapes new saved s v a moved
+unmarked listed shapes old new saved s v lo hi at e a moved view kept_old within at_shape at_ends above below u = by (has_bit old.bits.items lo at a) refl u
+  where
+    by : (t : Bool) → has_bit old.bits.items lo at a ≡ t → UnmarksIf t old new v e (at + int_gap lo a) moved → Unmarked listed shapes new saved s v a moved
+    by true is w = unmarked_one listed shapes old new saved s v lo hi at e a moved view kept_old within at_shape at_ends above below is w
+    by false is w = unmarked_none listed shapes old new saved s v lo hi at e a moved view kept_old within at_shape at_ends is w
+
+-- the same of any shape that tells a bit
+pub unmarked_shape : (listed : List ℤ) (shapes : List Shape) (old new : State) (saved : List State) (s : Sets) (v : ℕ) (shape : Shape) (e : Ends) (a : ℤ) (bit : ℕ) (moved : Moved) → seen listed shapes old saved ≡ s → IsKept listed shapes old saved → v < length s.sets
+    → shape ≡ get_or shapes v shape → e ≡ get_or old.ends.items v e → TellsBit shape e a (Some bit) → Unmarks old new v e bit moved → Unmarked listed shapes new saved s v a moved
+unmarked_shape listed shapes old new saved s v (Stretch lo hi) e a bit moved view kept_old within at_shape at_ends tells u = absurd tells.2
+unmarked_shape listed shapes old new saved s v (Listed from to) e a bit moved view kept_old within at_shape at_ends tells u = absurd tells.2
+unmarked_shape listed shapes old new saved s v (Bits lo hi at) e a bit moved view kept_old within at_shape at_ends tells u =
+    unmarked listed shapes old new saved s v lo hi at e a moved view kept_old within at_shape at_ends tells.0 tells.1 (subst (λ b. Unmarks old new v e b moved) tells.2 u)
+
+-- of a set that loses values at its ends alone no value between them may go
+bounded_held : (listed : List ℤ) (shape : Shape) → IsTrue (is_bounded_shape shape) → IsTrue (variable_held listed shape).bounded
+bounded_held listed (Stretch lo hi) t = t
+bounded_held listed (Listed from to) t = t
+bounded_held listed (Bits lo hi at) t = t
+
+pub inner_stays : (listed : List ℤ) (bits : List ℕ) (shape : Shape) (e : Ends) (a : ℤ) (var : Variable) (xs : List ℤ) → xs ≡ values_held listed bits shape e → var ≡ variable_held listed shape → MayGo var xs a → AreEndsOf (values_held listed bits shape e) e
+    → (e.lo <ℤ a → a <ℤ e.hi → IsTrue (is_bounded_shape shape)) → e.lo <ℤ a → a <ℤ e.hi → Has (values_held listed bits shape e) a → ⊥
+inner_stays listed bits shape e a var xs is_set is_var may ends bounded above below has =
+    by (may (subst (λ (w : Variable). IsTrue w.bounded) (sym is_var) (bounded_held listed shape (bounded above below))) (subst (λ ys. Has ys a) (sym is_set) has))
+  where
+    by : IsEnd a xs → ⊥
+    by (inl first) = let here : slice_get xs 0 ≡ Some e.lo = ap (λ ys. slice_get ys 0) is_set ∙ ends.first in let same : a ≡ e.lo = cc in omega (arith, ints, above, same)
+    by (inr last) = let here : slice_get xs (length xs - 1) ≡ Some e.hi = ap (λ ys. slice_get ys (length ys - 1)) is_set ∙ ends.last in let same : a ≡ e.hi = cc in omega (arith, ints, below, same)
+
+-- ---- the last saved state
+
+last_and_rest : {X : Type 0} (P : X → Type 0) (rest : List X) (last : X) → AllByRecursion P (rest ++ last ∷ []) → P last × AllByRecursion P rest
+last_and_rest P [] last all = (all.0, tt)
+last_and_rest P (x ∷ rest) last all = let r = last_and_rest P rest last all.1 in (r.0, (all.0, r.1))
+
+pub kept_restored : (listed : List ℤ) (shapes : List Shape) (now last : State) (saved rest : List State) → IsKept listed shapes now saved → saved ≡ rest ++ last ∷ [] → IsKept listed shapes last rest
+kept_restored listed shapes now last saved rest k is =
+    let n = length now.bits.items in
+    let P : State → Type 0 = λ t. IsState listed shapes t.ends.items t.bits.items t.left × (length t.bits.items ≡ n) in
+    let both = last_and_rest P rest last (subst (AllByRecursion P) is k.before) in
+    let rows : n ≡ length last.bits.items = sym both.0.1 in
+    record {
+      shaped = subst (λ m. AllByRecursion (IsShape listed (64 * m)) shapes) rows k.shaped;
+      apart = k.apart;
+      current = both.0.0;
+      before = subst (λ m. AllByRecursion (λ t. IsState listed shapes t.ends.items t.bits.items t.left × (length t.bits.items ≡ m)) rest) rows both.1;
+    }

@@ -1,0 +1,13 @@
+use Rattle.std.proofs.Common.{◌≡◌, ℕ, ◌-◌, ◌<◌, ◌≤◌, false}
+use Rattle.mn_domains.specs.Held.{bit_of}
+use Rattle.mn_domains.proofs.bits.previous_set.Given as goal
+
+abbrev pub invariant-loop-at : goal.invariant-loop-at
+invariant-loop-at l = record {
+  from : l.start ≤ l.at;
+  within : l.at ≤ l.i;
+  none : (k : ℕ) → l.at < k → k ≤ l.i → bit_of l.words k ≡ false;
+}
+
+abbrev pub decreases-loop-at : goal.decreases-loop-at
+decreases-loop-at l = l.at - l.start

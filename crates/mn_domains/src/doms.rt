@@ -1,0 +1,262 @@
+ghost use Rattle.std.specs.Prelude.{◌≡◌, ◌<◌, [], ◌∷◌, ◌++◌, IsTrue, ◌↔◌, IfOk, OnOk, OnErr, filter, int_le, int_lt, length};
+ghost use Rattle.std.specs.Ordering.{int_eq};
+ghost use Rattle.mn_model.specs.Domain.{Has, IsFirst, IsLast};
+ghost use Rattle.mn_model.specs.Variable.{number_of};
+ghost use Rattle.mn_model.specs.Problem.{domains_of};
+ghost use Rattle.mn_boxes.specs.Boxes.{count_of, declared_variables, set_of, variable_at};
+ghost use Rattle.mn_boxes.specs.Sets.{MayGo, least};
+
+use super::layout::layout_of;
+use super::shape::{self, Ends, Shape};
+use super::state::State;
+use mn_boxes::Moved;
+use mn_model::{Instance, VarId};
+use std::alloc::{AllocError, Global};
+use std::marker::Model;
+
+/// No value would stay.
+#[derive(Clone, Copy, Debug, PartialEq, Eq)]
+pub struct Emptied;
+
+/// A set of values for each variable of an instance, and those that were saved. By its type the sets are a box.
+#[derive(Drop)]
+pub struct Doms {
+    /// How each variable's set is held.
+    shapes: Vec<Shape>,
+    /// The declared values of the SPARSEBOUND variables.
+    listed: Vec<i64>,
+    current: State,
+    saved: Vec<State>,
+}
+
+impl Model for Doms {
+    ghost use Rattle.std.specs.Prelude.{map};
+    ghost use Rattle.mn_domains.specs.Sets.{Sets};
+
+    ghost Value = { Sets };
+
+    ghost use Rattle.mn_domains.specs.Held.{IsKept, sets_of_state, variable_held};
+
+    ghost view = { λ d. record {
+      vars = map (variable_held d.listed.items) d.shapes.items;
+      sets = sets_of_state d.listed.items d.shapes.items d.current;
+      saved = map (sets_of_state d.listed.items d.shapes.items) d.saved.items;
+    } };
+
+    ghost invariant = { λ d. IsKept d.listed.items d.shapes.items d.current d.saved.items };
+}
+
+impl Doms {
+    ghost use Rattle.mn_domains.specs.Changes.{Changed, Restored, is_not};
+    ghost use Rattle.mn_domains.specs.Sets.{AreBoxes, Sets};
+
+    /// The declared sets, with none saved.
+    pub fn build(alloc: Global, inst: &Instance) -> Result<Doms, AllocError>
+        ensures vars { IfOk result (λ d. d.vars ≡ declared_variables inst.now.decls) }
+        ensures sets { IfOk result (λ d. d.sets ≡ domains_of inst.now.decls) }
+        ensures saved { IfOk result (λ d. d.saved ≡ []) }
+    {
+        let layout = layout_of(alloc, inst)?;
+        let current = State::full(alloc, &layout)?;
+        Ok(Doms {
+            shapes: layout.shapes,
+            listed: layout.listed,
+            current,
+            saved: Vec::new(alloc),
+        })
+    }
+
+    /// What the sets keep: now and whenever they were saved they are a box.
+    pub fn lawful(&self)
+        ensures { AreBoxes self.now }
+    {
+        let _left = self.current.left;
+    }
+
+    /// How many variables there are.
+    pub fn vars(&self) -> usize
+        ensures { result ≡ length self.now.sets }
+    {
+        self.shapes.len()
+    }
+
+    /// The least value of the variable's set.
+    pub fn lo(&self, v: VarId) -> i64
+        requires { number_of v < length self.now.sets }
+        ensures { IsFirst result (set_of self.now.sets (number_of v)) }
+    {
+        self.current.ends[v.number() as usize].lo
+    }
+
+    /// The greatest value of the variable's set.
+    pub fn hi(&self, v: VarId) -> i64
+        requires { number_of v < length self.now.sets }
+        ensures { IsLast result (set_of self.now.sets (number_of v)) }
+    {
+        self.current.ends[v.number() as usize].hi
+    }
+
+    /// How many values the variable's set has.
+    pub fn size(&self, v: VarId) -> u64
+        requires { number_of v < length self.now.sets }
+        ensures { result ≡ length (set_of self.now.sets (number_of v)) }
+    {
+        self.current.ends[v.number() as usize].size
+    }
+
+    /// How many values all sets have together.
+    pub fn left(&self) -> u64
+        ensures { result ≡ count_of self.now.sets }
+    {
+        self.current.left
+    }
+
+    /// Whether `a` is in the variable's set.
+    pub fn has(&self, v: VarId, a: i64) -> bool
+        requires { number_of v < length self.now.sets }
+        ensures { IsTrue result ↔ Has (set_of self.now.sets (number_of v)) a }
+    {
+        let i = v.number() as usize;
+        shape::has(
+            self.listed.as_slice(),
+            self.current.bits.as_slice(),
+            self.shapes[i],
+            self.current.ends[i],
+            a,
+        )
+    }
+
+    /// Whether `a` alone may be taken out of the variable's set. The values of a BOUND or SPARSEBOUND variable go at the
+    /// ends alone.
+    pub fn may_remove(&self, v: VarId, a: i64) -> bool
+        requires { number_of v < length self.now.sets }
+        ensures { IsTrue result ↔ MayGo (variable_at self.now.vars (number_of v)) (set_of self.now.sets (number_of v)) a }
+    {
+        let i = v.number() as usize;
+        shape::may_go(
+            self.listed.as_slice(),
+            self.current.bits.as_slice(),
+            self.shapes[i],
+            self.current.ends[i],
+            a,
+        )
+    }
+
+    /// The least value of the variable's set that is greater than `a`.
+    pub fn next(&self, v: VarId, a: i64) -> Option<i64>
+        requires { number_of v < length self.now.sets }
+        ensures { result ≡ least (filter (λ x. int_lt a x) (set_of self.now.sets (number_of v))) }
+    {
+        let i = v.number() as usize;
+        shape::next(
+            self.listed.as_slice(),
+            self.current.bits.as_slice(),
+            self.shapes[i],
+            self.current.ends[i],
+            a,
+        )
+    }
+
+    /// Keeps the values that are at least `a`.
+    pub fn set_lo(&mut self, v: VarId, a: i64) -> Result<Moved, Emptied>
+        requires { number_of v < length self.old.sets }
+        ensures { Changed (λ x. int_le a x) (number_of v) self.old self.new result }
+    {
+        let i = v.number() as usize;
+        let ends = self.current.ends[i];
+        if ends.hi < a {
+            return Err(Emptied);
+        }
+        let cut = shape::cut_low(
+            self.listed.as_slice(),
+            self.current.bits.as_slice(),
+            self.shapes[i],
+            ends,
+            a,
+        );
+        Ok(self.current.put(i, ends, cut))
+    }
+
+    /// Keeps the values that are at most `a`.
+    pub fn set_hi(&mut self, v: VarId, a: i64) -> Result<Moved, Emptied>
+        requires { number_of v < length self.old.sets }
+        ensures { Changed (λ x. int_le x a) (number_of v) self.old self.new result }
+    {
+        let i = v.number() as usize;
+        let ends = self.current.ends[i];
+        if a < ends.lo {
+            return Err(Emptied);
+        }
+        let cut = shape::cut_high(
+            self.listed.as_slice(),
+            self.current.bits.as_slice(),
+            self.shapes[i],
+            ends,
+            a,
+        );
+        Ok(self.current.put(i, ends, cut))
+    }
+
+    /// Keeps `a` alone.
+    pub fn assign(&mut self, v: VarId, a: i64) -> Result<Moved, Emptied>
+        requires { number_of v < length self.old.sets }
+        ensures { Changed (λ x. int_eq x a) (number_of v) self.old self.new result }
+    {
+        let i = v.number() as usize;
+        let ends = self.current.ends[i];
+        let shape = self.shapes[i];
+        let listed = self.listed.as_slice();
+        let bits = self.current.bits.as_slice();
+        if !shape::has(listed, bits, shape, ends, a) {
+            return Err(Emptied);
+        }
+        let alone = shape::only(listed, bits, shape, ends, a);
+        Ok(self.current.put(i, ends, alone))
+    }
+
+    /// Keeps the values other than `a`.
+    pub fn remove(&mut self, v: VarId, a: i64) -> Result<Moved, Emptied>
+        requires within { number_of v < length self.old.sets }
+        requires may { MayGo (variable_at self.old.vars (number_of v)) (set_of self.old.sets (number_of v)) a }
+        ensures { Changed (is_not a) (number_of v) self.old self.new result }
+    {
+        let i = v.number() as usize;
+        let ends = self.current.ends[i];
+        let shape = self.shapes[i];
+        let listed = self.listed.as_slice();
+        let bits = self.current.bits.as_slice();
+        if ends.are(a) {
+            return Err(Emptied);
+        }
+        match shape::inner_bit(listed, bits, shape, ends, a) {
+            Some(bit) => Ok(self.current.unmark(i, ends, bit)),
+            None => {
+                let rest = shape::without(listed, bits, shape, ends, a);
+                Ok(self.current.put(i, ends, rest))
+            }
+        }
+    }
+
+    /// Keeps a copy of all sets.
+    pub fn save(&mut self) -> Result<(), AllocError>
+        ensures ok { OnOk result (self.new ≡ record self.old { saved = self.old.saved ++ self.old.sets ∷ [] }) }
+        ensures err { OnErr result (self.new ≡ self.old) }
+    {
+        let copy = self.current.copy(*self.saved.allocator())?;
+        self.saved.push(copy)?;
+        Ok(())
+    }
+
+    /// Goes back to the sets that were saved last. False exactly where none are saved.
+    pub fn restore(&mut self) -> bool
+        ensures { Restored self.old self.new result }
+    {
+        match self.saved.pop() {
+            Some(last) => {
+                self.current = last;
+                true
+            }
+            None => false,
+        }
+    }
+}
