@@ -1,0 +1,2 @@
+//! Propagation: what settling means.
+#![tactic(auto)]
