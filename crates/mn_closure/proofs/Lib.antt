@@ -1,3 +1,4 @@
 pub mod Covering
 pub mod Joined
+pub mod Singles
 pub mod Wider

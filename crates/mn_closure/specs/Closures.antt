@@ -1,5 +1,5 @@
 -- The greatest closed box, and the least box around two.
-use Rattle.std.specs.Prelude.{ℤ, ◌&&◌, Bool, true, false, List, [], ◌∷◌, ◌++◌, filter, int_le}
+use Rattle.std.specs.Prelude.{ℤ, ◌&&◌, Bool, true, false, List, [], ◌∷◌, ◌++◌, filter, map, int_le}
 use Rattle.std.specs.List.{list_any}
 use Rattle.std.specs.Ordering.{int_eq}
 use Rattle.mn_model.specs.declared.constraint.Con.{Con}
@@ -33,6 +33,10 @@ join [] one another = []
 join (var ∷ vars) [] another = []
 join (var ∷ vars) (xs ∷ one) [] = []
 join (var ∷ vars) (xs ∷ one) (ys ∷ another) = filter (is_joined var.bounded (xs ++ ys)) var.declared ∷ join vars one another
+
+-- the box with one value in each set
+abbrev pub singles : List ℤ → List (List ℤ)
+singles values = map (λ a. a ∷ []) values
 
 -- inner is the greatest box inside the outer one that is closed under all constraints
 pub record IsClosure (vars : List Variable) (lists : List Tuples) (cons : List Con) (outer inner : List (List ℤ)) : Type 0 where
