@@ -187,7 +187,7 @@ apart_both true first second p r = first p r
 apart_both false first second q s = second q s
 
 -- a child under which a box is closed is possible
-closed_possible : (vars : List Variable) (lists : List Tuples) (cs : Cons) (says : Bool) (box : List (List ℤ)) → OneClosed vars lists cs says box → OnePossible lists cs says box
+pub closed_possible : (vars : List Variable) (lists : List Tuples) (cs : Cons) (says : Bool) (box : List (List ℤ)) → OneClosed vars lists cs says box → OnePossible lists cs says box
 closed_possible vars lists con.End says box one = one
 closed_possible vars lists (con.More' p (more_of-Con c none) q (more_of-Cons cs nothing)) says box (inl both) = inl both.0
 closed_possible vars lists (con.More' p (more_of-Con c none) q (more_of-Cons cs nothing)) says box (inr later) = inr (closed_possible vars lists cs says box later)

@@ -1,4 +1,5 @@
 pub mod Covering
 pub mod Joined
 pub mod Singles
+pub mod Solved
 pub mod Wider
