@@ -128,7 +128,7 @@ leaf_join vars lists c one another cover k first second = record {
 }
 
 -- a member of values that all are 0 or 1 is one of these
-bit_of : (values : List ℤ) (a : ℤ) → AllByRecursion IsZeroOrOne values → Has values a → IsZeroOrOne a
+pub bit_of : (values : List ℤ) (a : ℤ) → AllByRecursion IsZeroOrOne values → Has values a → IsZeroOrOne a
 bit_of [] a all has = absurd has
 bit_of (b ∷ values) a all (inl same) = subst IsZeroOrOne same all.0
 bit_of (b ∷ values) a all (inr later) = bit_of values a all.1 later

@@ -62,13 +62,13 @@ mutual
       AllByRecursion-append (Known n) (places (negation c)) (places_of (negations cs)) (known_negation n c (All-front (Known n) (places c) (places_of cs) known)) (known_negations n cs (All-back (Known n) (places c) (places_of cs) known))
 
 -- what is so exactly where something else is
-through : {P Q R : Type 0} → P ↔ Q → Q ↔ R → P ↔ R
+pub through : {P Q R : Type 0} → P ↔ Q → Q ↔ R → P ↔ R
 through pq qr = (λ p. qr.0 (pq.0 p), λ r. pq.1 (qr.1 r))
 
-either_iff : {P Q R S : Type 0} → P ↔ R → Q ↔ S → (P ⊎ Q) ↔ (R ⊎ S)
+pub either_iff : {P Q R S : Type 0} → P ↔ R → Q ↔ S → (P ⊎ Q) ↔ (R ⊎ S)
 either_iff pr qs = (⊎_elim (λ p. inl (pr.0 p)) (λ q. inr (qs.0 q)), ⊎_elim (λ r. inl (pr.1 r)) (λ s. inr (qs.1 s)))
 
-both_iff : {P Q R S : Type 0} → P ↔ R → Q ↔ S → (P × Q) ↔ (R × S)
+pub both_iff : {P Q R S : Type 0} → P ↔ R → Q ↔ S → (P × Q) ↔ (R × S)
 both_iff pr qs = (λ b. (pr.0 b.0, qs.0 b.1), λ b. (pr.1 b.0, qs.1 b.1))
 
 says_iff : (says : Bool) {P Q R S : Type 0} → P ↔ R → Q ↔ S → IfSays says P Q ↔ IfSays says R S
