@@ -1,5 +1,5 @@
 -- A join is closed where both boxes are.
-use Rattle.std.proofs.Common.{◌≡◌, ℕ, zero, suc, ℤ, pos, ◌-ℤ◌, ◌≤ℤ◌, ◌⊎◌, inl, inr, ⊎_elim, Bool, true, false, not, List, [], ◌∷◌, ◌++◌, map, slice_get, refl, sym, subst, ap, ◌∙◌, arith}
+use Rattle.std.proofs.Common.{◌≡◌, ℕ, zero, suc, ℤ, pos, ◌-ℤ◌, ◌⊎◌, inl, inr, ⊎_elim, Bool, true, false, not, List, [], ◌∷◌, ◌++◌, slice_get, refl, sym, subst, ◌∙◌, arith}
 use Rattle.std.proofs.lemmas.Int.{ints}
 use Rattle.std.specs.List.{AllByRecursion}
 use Rattle.mn_model.specs.Decided.{Decided}
@@ -15,17 +15,16 @@ use Rattle.mn_model.specs.declared.constraint.Term.{Term}
 use Rattle.mn_model.specs.declared.constraint.Term.TheVariants.{Var, Const, Not}
 use Rattle.mn_model.specs.declared.declaration.Tuples.{Tuples}
 use Rattle.mn_boxes.specs.Boxes.{Inside, IsBox, set_of, variable_at}
-use Rattle.mn_boxes.specs.Places.{PlaceHas, IsPlaceEnd, is_place_bounded}
-use Rattle.mn_boxes.specs.Sets.{IsSetOf, IsEnd, Variable}
-use Rattle.mn_boxes.proofs.Members.{PartOf, StandsFirst, stands_first, is_first, StandsLast, stands_last, is_last}
+use Rattle.mn_boxes.specs.Places.{PlaceHas}
+use Rattle.mn_boxes.specs.Sets.{IsEnd, Variable}
+use Rattle.mn_boxes.proofs.Members.{StandsFirst, stands_first, is_first, StandsLast, stands_last, is_last}
 use Rattle.mn_boxes.proofs.Quiet.{ascends_at}
 use Rattle.mn_meaning.specs.Laws.{IsZeroOrOne}
 use Rattle.mn_meaning.proofs.MemberLemmas.{All-front, All-back}
-use Rattle.mn_closure.specs.Closed.{Asked, LeafClosed, signed, bit, IfSays, IfApart, IsAlone, PartsPossible, OnePossible, TwoPossible, PartsClosed, OneClosed, EachClosed, Closed, ClosedAll, is_taken_apart}
-use Rattle.mn_closure.specs.Closures.{join, IsJoin}
+use Rattle.mn_closure.specs.Closed.{Asked, LeafClosed, signed, bit, IfSays, IfApart, IsAlone, PartsPossible, OnePossible, TwoPossible, PartsClosed, OneClosed, EachClosed, Closed, is_taken_apart}
+use Rattle.mn_closure.specs.Closures.{join}
 use Rattle.mn_closure.specs.Laws.{declared_sets}
 use Rattle.mn_closure.specs.Levels.{Level, Arc, Fixed, Hull, Last, level}
-use Rattle.mn_closure.specs.Supports.{StandsAt, Supported}
 use Rattle.mn_closure.proofs.Joined.{Joins, Spans, has_either, joins_at, is_join}
 use Rattle.mn_closure.proofs.Wider.{wider_place, wider_supported, wider_parts, wider_one, wider_two}
 
@@ -41,9 +40,9 @@ pub record Covers (vars : List Variable) (one another cover : List (List ℤ)) :
 -- an end of the joined set is an end of one of both
 end_of_either : (bounded : Bool) (xs ys js : List ℤ) → Ascends xs → Ascends ys → Joins bounded xs ys js → (a : ℤ) → IsEnd a js → IsEnd a xs ⊎ IsEnd a ys
 end_of_either bounded xs ys js up_x up_y j a (inl first) = elim (has_either xs ys a (among (j.spans a stands.has))) [
-    | inl x ↦ inl (inl (is_first xs a up_x (record { has = x; others = λ b has. stands.others b (j.has_x b has) })))
-    | inr y ↦ inr (inl (is_first ys a up_y (record { has = y; others = λ b has. stands.others b (j.has_y b has) })))
-  ]
+  | inl x ↦ inl (inl (is_first xs a up_x (record { has = x; others = λ b has. stands.others b (j.has_x b has) })))
+  | inr y ↦ inr (inl (is_first ys a up_y (record { has = y; others = λ b has. stands.others b (j.has_y b has) })))
+]
   where
     stands : StandsFirst js a
     stands = stands_first js a j.ascends first
@@ -54,9 +53,9 @@ end_of_either bounded xs ys js up_x up_y j a (inl first) = elim (has_either xs y
     among : Spans (xs ++ ys) a → Has (xs ++ ys) a
     among s = let least = stands.others s.low (here s.low s.has_low) in let same : s.low ≡ a = omega (arith, ints, least, s.from) in subst (Has (xs ++ ys)) same s.has_low
 end_of_either bounded xs ys js up_x up_y j a (inr last) = elim (has_either xs ys a (among (j.spans a stands.has))) [
-    | inl x ↦ inl (inr (is_last xs a up_x (record { has = x; others = λ b has. stands.others b (j.has_x b has) })))
-    | inr y ↦ inr (inr (is_last ys a up_y (record { has = y; others = λ b has. stands.others b (j.has_y b has) })))
-  ]
+  | inl x ↦ inl (inr (is_last xs a up_x (record { has = x; others = λ b has. stands.others b (j.has_x b has) })))
+  | inr y ↦ inr (inr (is_last ys a up_y (record { has = y; others = λ b has. stands.others b (j.has_y b has) })))
+]
   where
     stands : StandsLast js a
     stands = stands_last js a j.ascends last
@@ -77,13 +76,13 @@ AskedOf P xs a = Has xs a × (P → IsEnd a xs)
 
 asked_of : (P : Type 0) (bounded : Bool) (xs ys js : List ℤ) → Decided P → ((P → ⊥) → bounded ≡ false) → Ascends xs → Ascends ys → Joins bounded xs ys js → (a : ℤ) → AskedOf P js a → AskedOf P xs a ⊎ AskedOf P ys a
 asked_of P bounded xs ys js (inl p) unbounded up_x up_y j a asked = elim (end_of_either bounded xs ys js up_x up_y j a (asked.1 p)) [
-    | inl x ↦ inl (end_has xs a up_x x, λ q. x)
-    | inr y ↦ inr (end_has ys a up_y y, λ q. y)
-  ]
+  | inl x ↦ inl (end_has xs a up_x x, λ q. x)
+  | inr y ↦ inr (end_has ys a up_y y, λ q. y)
+]
 asked_of P bounded xs ys js (inr none) unbounded up_x up_y j a asked = elim (has_either xs ys a (j.among (unbounded none) a asked.0)) [
-    | inl x ↦ inl (x, λ q. absurd (none q))
-    | inr y ↦ inr (y, λ q. absurd (none q))
-  ]
+  | inl x ↦ inl (x, λ q. absurd (none q))
+  | inr y ↦ inr (y, λ q. absurd (none q))
+]
 
 -- whether the ends alone are asked for
 is_hull : (l : Level) → Decided (l ≡ Hull)
@@ -109,14 +108,14 @@ asked_at l vars one another cover k v a asked =
 -- what has to be supported in the cover has to be so in one of the two
 pub asked_either : (l : Level) (vars : List Variable) (one another cover : List (List ℤ)) → Covers vars one another cover → (t : Term) (a : ℤ) → Asked l vars cover t a → Asked l vars one t a ⊎ Asked l vars another t a
 asked_either l vars one another cover k (Var v) a asked = elim (asked_at l vars one another cover k (number_of v) a (asked.there, asked.ends)) [
-    | inl x ↦ inl (record { there = x.0; ends = x.1 })
-    | inr y ↦ inr (record { there = y.0; ends = y.1 })
-  ]
+  | inl x ↦ inl (record { there = x.0; ends = x.1 })
+  | inr y ↦ inr (record { there = y.0; ends = y.1 })
+]
 asked_either l vars one another cover k (Const n) a asked = inl (record { there = asked.there; ends = asked.ends })
 asked_either l vars one another cover k (Not v) a asked = elim (asked_at l vars one another cover k (number_of v) (pos 1 -ℤ a) (asked.there, asked.ends)) [
-    | inl x ↦ inl (record { there = x.0; ends = x.1 })
-    | inr y ↦ inr (record { there = y.0; ends = y.1 })
-  ]
+  | inl x ↦ inl (record { there = x.0; ends = x.1 })
+  | inr y ↦ inr (record { there = y.0; ends = y.1 })
+]
 
 pub leaf_join : (vars : List Variable) (lists : List Tuples) (c : Con) (one another cover : List (List ℤ)) → Covers vars one another cover → LeafClosed vars lists c one → LeafClosed vars lists c another → LeafClosed vars lists c cover
 leaf_join vars lists c one another cover k first second = record {
@@ -173,9 +172,9 @@ alone_in inner outer i r a alone = λ b has. alone b (wider_place inner outer i 
 possible_join : (vars : List Variable) (lists : List Tuples) (c : Con) (says : Bool) (r : Term) (a : ℤ) (one another cover : List (List ℤ)) → Covers vars one another cover → IsBit (declared_sets vars) r
     → (PlaceHas one r a → PartsPossible lists c says one) → (PlaceHas another r a → PartsPossible lists c says another) → PlaceHas cover r a → PartsPossible lists c says cover
 possible_join vars lists c says r a one another cover k zeros first second has = elim (bit_either vars one another cover k r a zeros has) [
-    | inl x ↦ wider_parts lists c says one cover k.in_one (first x)
-    | inr y ↦ wider_parts lists c says another cover k.in_another (second y)
-  ]
+  | inl x ↦ wider_parts lists c says one cover k.in_one (first x)
+  | inr y ↦ wider_parts lists c says another cover k.in_another (second y)
+]
 
 -- of two things the one that is asked for
 says_both : (says : Bool) {P Q R S T U : Type 0} → (P → R → T) → (Q → S → U) → IfSays says P Q → IfSays says R S → IfSays says T U
@@ -207,17 +206,20 @@ mutual
   parts_join vars lists (con.WatchedAnd cs) says one another cover k zeros first second = says_both says (each_join vars lists cs true one another cover k zeros) (two_or_one vars lists cs false one another cover k (one_join vars lists cs false one another cover k zeros)) first second
   parts_join vars lists (con.Reify' p (more_of-Con c none) r) says one another cover k zeros first second =
       let inner = All-front (IsBit (declared_sets vars)) (bits c) (r ∷ []) zeros in
-      let r_bit = (All-back (IsBit (declared_sets vars)) (bits c) (r ∷ []) zeros).0 in
-      (possible_join vars lists c true r (bit says) one another cover k r_bit first.0 second.0,
-      possible_join vars lists c false r (bit (not says)) one another cover k r_bit first.1 second.1,
-      (λ alone. parts_join vars lists c true one another cover k inner (first.2 (alone_in one cover k.in_one r (bit says) alone)) (second.2 (alone_in another cover k.in_another r (bit says) alone))),
-      (λ alone. parts_join vars lists c false one another cover k inner (first.3 (alone_in one cover k.in_one r (bit (not says)) alone)) (second.3 (alone_in another cover k.in_another r (bit (not says)) alone))))
-  parts_join vars lists (con.Reifyimply' p (more_of-Con c none) r) true one another cover k zeros first second =
-      (possible_join vars lists c true r (pos 1) one another cover k (All-back (IsBit (declared_sets vars)) (bits c) (r ∷ []) zeros).0 first.0 second.0,
-      (λ alone. parts_join vars lists c true one another cover k (All-front (IsBit (declared_sets vars)) (bits c) (r ∷ []) zeros) (first.1 (alone_in one cover k.in_one r (pos 1) alone)) (second.1 (alone_in another cover k.in_another r (pos 1) alone))))
-  parts_join vars lists (con.Reifyimply' p (more_of-Con c none) r) false one another cover k zeros first second =
-      (leaf_join vars lists (con.WLiteral r (pos 1)) one another cover k first.0 second.0,
-      parts_join vars lists c false one another cover k (All-front (IsBit (declared_sets vars)) (bits c) (r ∷ []) zeros) first.1 second.1)
+      let r_bit = (All-back (IsBit (declared_sets vars)) (bits c) (r ∷ []) zeros).0 in (
+        possible_join vars lists c true r (bit says) one another cover k r_bit first.0 second.0,
+        possible_join vars lists c false r (bit (not says)) one another cover k r_bit first.1 second.1,
+        (λ alone. parts_join vars lists c true one another cover k inner (first.2 (alone_in one cover k.in_one r (bit says) alone)) (second.2 (alone_in another cover k.in_another r (bit says) alone))),
+        (λ alone. parts_join vars lists c false one another cover k inner (first.3 (alone_in one cover k.in_one r (bit (not says)) alone)) (second.3 (alone_in another cover k.in_another r (bit (not says)) alone))),
+      )
+  parts_join vars lists (con.Reifyimply' p (more_of-Con c none) r) true one another cover k zeros first second = (
+    possible_join vars lists c true r (pos 1) one another cover k (All-back (IsBit (declared_sets vars)) (bits c) (r ∷ []) zeros).0 first.0 second.0,
+    (λ alone. parts_join vars lists c true one another cover k (All-front (IsBit (declared_sets vars)) (bits c) (r ∷ []) zeros) (first.1 (alone_in one cover k.in_one r (pos 1) alone)) (second.1 (alone_in another cover k.in_another r (pos 1) alone))),
+  )
+  parts_join vars lists (con.Reifyimply' p (more_of-Con c none) r) false one another cover k zeros first second = (
+    leaf_join vars lists (con.WLiteral r (pos 1)) one another cover k first.0 second.0,
+    parts_join vars lists c false one another cover k (All-front (IsBit (declared_sets vars)) (bits c) (r ∷ []) zeros) first.1 second.1,
+  )
   parts_join vars lists c says one another cover k zeros first second = leaf_join vars lists (signed says c) one another cover k first second
 
   one_join : (vars : List Variable) (lists : List Tuples) (cs : Cons) (says : Bool) (one another cover : List (List ℤ)) → Covers vars one another cover → AllByRecursion (IsBit (declared_sets vars)) (bits_of cs)
@@ -235,9 +237,10 @@ mutual
   each_join : (vars : List Variable) (lists : List Tuples) (cs : Cons) (says : Bool) (one another cover : List (List ℤ)) → Covers vars one another cover → AllByRecursion (IsBit (declared_sets vars)) (bits_of cs)
       → EachClosed vars lists cs says one → EachClosed vars lists cs says another → EachClosed vars lists cs says cover
   each_join vars lists con.End says one another cover k zeros first second = tt
-  each_join vars lists (con.More' p (more_of-Con c none) q (more_of-Cons cs nothing)) says one another cover k zeros first second =
-      (parts_join vars lists c says one another cover k (All-front (IsBit (declared_sets vars)) (bits c) (bits_of cs) zeros) first.0 second.0,
-      each_join vars lists cs says one another cover k (All-back (IsBit (declared_sets vars)) (bits c) (bits_of cs) zeros) first.1 second.1)
+  each_join vars lists (con.More' p (more_of-Con c none) q (more_of-Cons cs nothing)) says one another cover k zeros first second = (
+    parts_join vars lists c says one another cover k (All-front (IsBit (declared_sets vars)) (bits c) (bits_of cs) zeros) first.0 second.0,
+    each_join vars lists cs says one another cover k (All-back (IsBit (declared_sets vars)) (bits c) (bits_of cs) zeros) first.1 second.1,
+  )
 
 pub closed_join : (vars : List Variable) (lists : List Tuples) (c : Con) (says : Bool) (one another cover : List (List ℤ)) → Covers vars one another cover → AllByRecursion (IsBit (declared_sets vars)) (bits c)
     → Closed vars lists c says one → Closed vars lists c says another → Closed vars lists c says cover

@@ -1,5 +1,5 @@
 -- A box is closed under a negation, and can meet it, exactly where the sign says so.
-use Rattle.std.proofs.Common.{◌≡◌, ℤ, pos, ◌-ℤ◌, ◌⊎◌, inl, inr, ⊎_elim, ◌↔◌, Bool, true, false, List, [], ◌∷◌, refl, sym, subst, ap, ◌∙◌, arith}
+use Rattle.std.proofs.Common.{◌≡◌, ℤ, pos, ◌-ℤ◌, ◌↔◌, Bool, true, false, List, [], ◌∷◌, refl, sym, subst, arith}
 use Rattle.std.proofs.lemmas.Int.{ints}
 use Rattle.mn_model.specs.Domain.{Has}
 use Rattle.mn_model.specs.Negation.{negation, negations, other}
@@ -17,7 +17,7 @@ use Rattle.mn_boxes.specs.Places.{PlaceHas}
 use Rattle.mn_boxes.specs.Sets.{Variable}
 use Rattle.mn_meaning.specs.Meaning.{at}
 use Rattle.mn_closure.specs.Closed.{LeafClosed, IfApart, IsAlone, PartsPossible, OnePossible, EachPossible, TwoPossible, Possible, PartsClosed, OneClosed, EachClosed, Closed, is_taken_apart}
-use Rattle.mn_closure.specs.Supports.{Choice, SomeChoice, LeafPossible}
+use Rattle.mn_closure.specs.Supports.{Choice, LeafPossible}
 use Rattle.mn_closure.proofs.Solved.{through, either_iff, both_iff}
 
 same : {P : Type 0} → P ↔ P

@@ -1,13 +1,12 @@
 -- The least box around two.
-use Rattle.std.proofs.Common.{◌≡◌, ℕ, zero, suc, ℤ, pos, ◌-ℤ◌, ◌<ℤ◌, ◌≤ℤ◌, ◌&&◌, ◌||◌, ◌⊎◌, inl, inr, int_le, Bool, true, false, cond, List, [], ◌∷◌, ◌++◌, length, map, filter, slice_get, refl, sym, subst, ap, ◌∙◌, arith}
+use Rattle.std.proofs.Common.{◌≡◌, ℕ, zero, suc, ℤ, ◌<ℤ◌, ◌≤ℤ◌, ◌&&◌, ◌||◌, ◌⊎◌, inl, inr, int_le, Bool, true, false, cond, List, [], ◌∷◌, ◌++◌, filter, refl, sym, subst, ap, ◌∙◌, arith}
 use Rattle.std.proofs.lemmas.Int.{ints}
 use Rattle.std.specs.List.{AllByRecursion, list_any}
 use Rattle.std.specs.Ordering.{int_eq}
-use Rattle.mn_model.specs.Decided.{Decided, decide_int}
-use Rattle.mn_model.specs.Domain.{Ascends, Has, IsFirst, IsLast}
+use Rattle.mn_model.specs.Domain.{Ascends, Has}
 use Rattle.mn_boxes.specs.Boxes.{Inside, IsBox, set_of, variable_at}
-use Rattle.mn_boxes.specs.Sets.{IsSetOf, IsEnd, Variable}
-use Rattle.mn_boxes.proofs.Members.{PartOf, above_all, all_above, StandsFirst, stands_first, is_first, StandsLast, stands_last, is_last}
+use Rattle.mn_boxes.specs.Sets.{IsSetOf, Variable}
+use Rattle.mn_boxes.proofs.Members.{PartOf, above_all, all_above}
 use Rattle.mn_closure.specs.Closures.{is_among, is_between, is_joined, join, IsJoin}
 
 -- the members of two lists together

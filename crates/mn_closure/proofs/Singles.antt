@@ -1,5 +1,5 @@
 -- A leaf in a box of single values.
-use Rattle.std.proofs.Common.{◌≡◌, ◌≢◌, ℕ, zero, suc, ◌<◌, ℤ, pos, ◌-ℤ◌, ◌*ℤ◌, ◌≤ℤ◌, nat_abs, ◌⊎◌, inl, inr, ⊎_elim, Bool, true, false, List, [], ◌∷◌, ◌++◌, length, map, slice_get, Option, Some, None, refl, sym, subst, ap, ◌∙◌, arith}
+use Rattle.std.proofs.Common.{◌≡◌, ◌≢◌, ℕ, zero, suc, ◌<◌, ℤ, pos, ◌-ℤ◌, ◌≤ℤ◌, inl, inr, ⊎_elim, Bool, true, false, List, [], ◌∷◌, length, map, slice_get, Some, refl, sym, subst, ap, ◌∙◌, arith}
 use Rattle.std.proofs.lemmas.Int.{ints}
 use Rattle.std.specs.List.{AllByRecursion}
 use Rattle.mn_model.specs.Domain.{Has}
@@ -19,7 +19,7 @@ use Rattle.mn_meaning.specs.Meaning.{at, value_of, Meets, Holds}
 use Rattle.mn_closure.specs.Closed.{Asked, LeafClosed}
 use Rattle.mn_closure.specs.Closures.{singles}
 use Rattle.mn_closure.specs.Levels.{Level, Arc, Fixed, Hull, Last, level_of, level_when, is_built, level}
-use Rattle.mn_closure.specs.Supports.{Choice, SomeChoice, ChoiceWith, StandsAt, IsOpen, SomeOpen, OtherOpen, NoneElse, IsWithin, SomeWithin, HullSupported, HullSupports, SupportedAt, LeafPossibleAt, product, difference}
+use Rattle.mn_closure.specs.Supports.{Choice, SomeChoice, ChoiceWith, StandsAt, IsOpen, NoneElse, IsWithin, SomeWithin, HullSupported, HullSupports, SupportedAt, LeafPossibleAt, product, difference}
 
 -- the term names one of n variables, or none
 abbrev pub Known : ℕ → Term → Type 0

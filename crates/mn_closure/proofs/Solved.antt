@@ -1,5 +1,5 @@
 -- A box of single values is closed under a constraint exactly where the constraint holds, and under its negation where not.
-use Rattle.std.proofs.Common.{◌≡◌, ℕ, ◌<◌, ℤ, pos, negsuc, ◌⊎◌, inl, inr, ⊎_elim, ◌↔◌, Bool, true, false, not, List, [], ◌∷◌, ◌++◌, length, map, refl, sym, subst, ◌∙◌, arith}
+use Rattle.std.proofs.Common.{◌≡◌, ℕ, ℤ, pos, negsuc, ◌⊎◌, inl, inr, ⊎_elim, ◌↔◌, Bool, true, false, not, List, [], ◌∷◌, ◌++◌, length, map, refl, sym, ◌∙◌, arith}
 use Rattle.std.proofs.lemmas.Int.{ints}
 use Rattle.std.specs.List.{AllByRecursion}
 use Rattle.mn_model.specs.Decided.{Decided, decide_int}
@@ -15,7 +15,7 @@ use Rattle.mn_model.specs.declared.declaration.Tuples.{Tuples}
 use Rattle.mn_boxes.specs.Places.{PlaceHas}
 use Rattle.mn_boxes.specs.Sets.{Variable}
 use Rattle.mn_meaning.specs.Laws.{IsZeroOrOne, BitsAreBits}
-use Rattle.mn_meaning.specs.Meaning.{at, value_of, front, behind, rest, Meets, SomeMeet, EachMeets, Holds, decide_meets}
+use Rattle.mn_meaning.specs.Meaning.{at, value_of, SomeMeet, EachMeets, Holds, decide_meets}
 use Rattle.mn_meaning.proofs.MemberLemmas.{All-front, All-back, AllByRecursion-append}
 use Rattle.mn_meaning.proofs.Negating.{front_is, rest_is, behind_is, negation_holds}
 use Rattle.mn_closure.specs.Closed.{LeafClosed, signed, bit, IfSays, IfApart, IsAlone, PartsPossible, OnePossible, EachPossible, TwoPossible, Possible, PartsClosed, OneClosed, EachClosed, Closed, is_taken_apart}

@@ -1,6 +1,5 @@
 -- What is there in a box is there in every box around it.
-use Rattle.std.proofs.Common.{◌≡◌, ℕ, zero, suc, ℤ, pos, ◌-ℤ◌, ◌⊎◌, inl, inr, Bool, true, false, not, List, [], ◌∷◌}
-use Rattle.std.specs.List.{AllZip}
+use Rattle.std.proofs.Common.{ℕ, zero, suc, ℤ, pos, ◌-ℤ◌, ◌⊎◌, inl, inr, Bool, true, false, not, List, [], ◌∷◌}
 use Rattle.mn_model.specs.Parts.{places}
 use Rattle.mn_model.specs.Variable.{number_of}
 use Rattle.mn_model.specs.declared.constraint.Con.{Con}
@@ -14,7 +13,7 @@ use Rattle.mn_boxes.specs.Boxes.{Inside}
 use Rattle.mn_boxes.specs.Places.{PlaceHas}
 use Rattle.mn_closure.specs.Closed.{signed, bit, IfSays, IfApart, PartsPossible, OnePossible, EachPossible, TwoPossible, Possible, is_taken_apart}
 use Rattle.mn_closure.specs.Levels.{Level, Arc, Fixed, Hull, Last, level}
-use Rattle.mn_closure.specs.Supports.{Choice, SomeChoice, ChoiceWith, IsOpen, SomeOpen, OtherOpen, NoneElse, IsWithin, SomeWithin, IsReached, HullSupported, HullSupports, SupportedAt, LeafPossibleAt, LeafPossible, product, difference}
+use Rattle.mn_closure.specs.Supports.{Choice, SomeChoice, ChoiceWith, IsOpen, SomeOpen, OtherOpen, IsWithin, SomeWithin, HullSupported, HullSupports, SupportedAt, LeafPossibleAt, product, difference}
 
 -- of two things the one that is asked for
 pub says_either : (says : Bool) {P Q R S : Type 0} → (P → R) → (Q → S) → IfSays says P Q → IfSays says R S

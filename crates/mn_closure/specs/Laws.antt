@@ -1,5 +1,5 @@
 -- What the definitions of closed boxes come to.
-use Rattle.std.specs.Prelude.{◌≡◌, ◌↔◌, ℕ, ℤ, Bool, true, false, List, [], ◌∷◌, map}
+use Rattle.std.specs.Prelude.{◌≡◌, ◌↔◌, ℕ, ℤ, Bool, true, false, List, map}
 use Rattle.std.specs.List.{AllByRecursion}
 use Rattle.mn_model.specs.Domain.{Ascends}
 use Rattle.mn_model.specs.Lawful.{IsLawfulCon, IsLawfulDecl, IsLawfulTerm, IsBit}
@@ -13,7 +13,7 @@ use Rattle.mn_boxes.specs.Boxes.{IsBox, Inside, declared_variables}
 use Rattle.mn_boxes.specs.Sets.{Variable}
 use Rattle.mn_meaning.specs.Laws.{IsAssignment}
 use Rattle.mn_meaning.specs.Meaning.{Holds, HoldsAll}
-use Rattle.mn_closure.specs.Closed.{IfSays, Possible, Closed, ClosedAll}
+use Rattle.mn_closure.specs.Closed.{IfSays, Possible, Closed}
 use Rattle.mn_closure.specs.Closures.{IsJoin, join, singles, IsClosure, NoClosure}
 use Rattle.mn_closure.specs.Levels.{Level}
 use Rattle.mn_closure.specs.Supports.{SupportedAt}

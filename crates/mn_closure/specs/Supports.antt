@@ -1,6 +1,6 @@
 -- Which values of a constraint's places are supported in a box, and whether the box can meet it. All is said by what is there,
 -- so it stays where the box grows.
-use Rattle.std.specs.Prelude.{◌≡◌, ◌≢◌, ℕ, zero, suc, ℤ, pos, ◌-ℤ◌, ◌*ℤ◌, ◌≤ℤ◌, ◌⊎◌, List, slice_get, Option, Some}
+use Rattle.std.specs.Prelude.{◌≡◌, ◌≢◌, ℕ, zero, suc, ℤ, pos, ◌-ℤ◌, ◌*ℤ◌, ◌≤ℤ◌, ◌⊎◌, List, slice_get, Some}
 use Rattle.std.proofs.Common.{nat_abs}
 use Rattle.std.specs.List.{AllZip}
 use Rattle.mn_model.specs.Parts.{places}
