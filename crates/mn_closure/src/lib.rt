@@ -1,0 +1,18 @@
+//! What propagation leaves: which values are supported, when a box is closed under a constraint, and the greatest closed box.
+//!
+//! A value of a place is supported in a box as the level of the constraint says; a box is closed where all that has to be
+//! supported is; the closure of a box is the greatest closed one inside it. The definitions are in `specs/`, and the crates
+//! above cite them: `level`, `Supported`, `Possible`, `Closed`, `IsClosure` and `NoClosure`. The functions are laws of these
+//! definitions and do nothing: joins of closed boxes are closed, closures are unique, and no solution is outside them.
+//!
+//! The crate stands on `mn_boxes`, `mn_meaning` and `mn_model`.
+#![tactic(auto)]
+
+mod laws;
+#[cfg(test)]
+mod tests;
+
+pub use laws::{
+    closure_is_unique, joins_are_closed, lawful_constraints_suit, negations_are_denied,
+    singles_tell, solutions_are_in_closures, wider_boxes_keep,
+};
