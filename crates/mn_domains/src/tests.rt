@@ -32,6 +32,9 @@ fn declared(
     if inst.find(name).is_some() {
         return Err(AllocError);
     }
+    if inst.find_alias(name).is_some() {
+        return Err(AllocError);
+    }
     if inst.vars() == VARIABLES {
         return Err(AllocError);
     }
