@@ -1,6 +1,7 @@
 pub mod Covering
 pub mod Denied
 pub mod Joined
+pub mod Only
 pub mod Singles
 pub mod Solved
 pub mod Solving

@@ -1,19 +1,23 @@
 -- What the definitions of closed boxes come to.
-use Rattle.std.specs.Prelude.{◌≡◌, ◌↔◌, ℕ, ℤ, Bool, true, false, List, map}
+use Rattle.std.specs.Prelude.{◌≡◌, ◌↔◌, ◌⊎◌, ℕ, ℤ, Bool, true, false, List, map}
 use Rattle.std.specs.List.{AllByRecursion}
+use Rattle.mn_model.specs.Decided.{Decided}
 use Rattle.mn_model.specs.Domain.{Ascends}
 use Rattle.mn_model.specs.Lawful.{IsLawfulCon, IsLawfulDecl, IsLawfulTerm, IsBit}
 use Rattle.mn_model.specs.Negation.{negation}
 use Rattle.mn_model.specs.Parts.{places, bits, IsShaped, IsWritten}
 use Rattle.mn_model.specs.Problem.{domains_of}
 use Rattle.mn_model.specs.declared.constraint.Con.{Con}
+use Rattle.mn_model.specs.declared.constraint.Cons.{Cons}
+use Rattle.mn_model.specs.declared.constraint.Con.TheVariants as con
+use Rattle.mn_model.specs.declared.constraint.Con.TheBlock.{more_of-Con, more_of-Cons}
 use Rattle.mn_model.specs.declared.declaration.Decl.{Decl}
 use Rattle.mn_model.specs.declared.declaration.Tuples.{Tuples}
 use Rattle.mn_boxes.specs.Boxes.{IsBox, Inside, declared_variables}
 use Rattle.mn_boxes.specs.Sets.{Variable}
 use Rattle.mn_meaning.specs.Laws.{IsAssignment}
 use Rattle.mn_meaning.specs.Meaning.{Holds, HoldsAll}
-use Rattle.mn_closure.specs.Closed.{IfSays, Possible, Closed}
+use Rattle.mn_closure.specs.Closed.{IfSays, PartsPossible, OnePossible, TwoPossible, PartsClosed, OneClosed, Possible, Closed}
 use Rattle.mn_closure.specs.Closures.{IsJoin, join, singles, IsClosure, NoClosure}
 use Rattle.mn_closure.specs.Levels.{Level}
 use Rattle.mn_closure.specs.Supports.{SupportedAt}
@@ -47,6 +51,23 @@ SupportStays = (l : Level) (lists : List Tuples) (c : Con) (i : ℕ) (a : ℤ) (
 -- and what a box can meet, every box around it can
 abbrev pub PossibleStays : Type 0
 PossibleStays = (lists : List Tuples) (c : Con) (says : Bool) (inner outer : List (List ℤ)) → Inside inner outer → Possible lists c says inner → Possible lists c says outer
+
+-- it can be told of each child whether it is possible
+abbrev pub EachDecided : List Tuples → Cons → Bool → List (List ℤ) → Type 0
+EachDecided lists con.End says box = Unit {0}
+EachDecided lists (con.More' p (more_of-Con c none) q (more_of-Cons cs nothing)) says box = Decided (PartsPossible lists c says box) × EachDecided lists cs says box
+
+-- exactly one child is possible, and the box is closed under it
+abbrev pub OnlyOneClosed : List Variable → List Tuples → Cons → Bool → List (List ℤ) → Type 0
+OnlyOneClosed vars lists con.End says box = ⊥
+OnlyOneClosed vars lists (con.More' p (more_of-Con c none) q (more_of-Cons cs nothing)) says box =
+    (PartsPossible lists c says box × PartsClosed vars lists c says box × (OnePossible lists cs says box → ⊥)) ⊎ ((PartsPossible lists c says box → ⊥) × OnlyOneClosed vars lists cs says box)
+
+-- where two aren't, one that is possible and under which the box is closed is the only one
+abbrev pub OneIsTheOnly : Type 0
+OneIsTheOnly =
+    (vars : List Variable) (lists : List Tuples) (cs : Cons) (says : Bool) (box : List (List ℤ)) → EachDecided lists cs says box
+    → (TwoPossible lists cs says box ⊎ OneClosed vars lists cs says box) ↔ (TwoPossible lists cs says box ⊎ OnlyOneClosed vars lists cs says box)
 
 -- the join is the least box around two
 abbrev pub JoinIsTheLeast : Type 0

@@ -1,5 +1,5 @@
 //! Laws of the definitions. The functions do nothing.
-ghost use Rattle.mn_closure.specs.Laws.{ClosureIsThere, ClosureIsUnique, JoinIsClosed, JoinIsTheLeast, JoinIsUnique, LawfulConstraintsSuit, LawfulValuesAscend, NegationIsDenied, NegationIsPossible, NoClosureNoSolution, PossibleStays, SinglesTellClosed, SinglesTellPossible, SolutionsAreInClosures, SupportStays};
+ghost use Rattle.mn_closure.specs.Laws.{ClosureIsThere, ClosureIsUnique, JoinIsClosed, JoinIsTheLeast, JoinIsUnique, LawfulConstraintsSuit, LawfulValuesAscend, NegationIsDenied, NegationIsPossible, NoClosureNoSolution, OneIsTheOnly, PossibleStays, SinglesTellClosed, SinglesTellPossible, SolutionsAreInClosures, SupportStays};
 
 /// What a lawful instance keeps is what the laws below ask for.
 pub fn lawful_constraints_suit()
@@ -42,4 +42,10 @@ pub fn solutions_are_in_closures()
 pub fn negations_are_denied()
     ensures closed { NegationIsDenied }
     ensures possible { NegationIsPossible }
+{}
+
+/// That two children are possible, or one is and the box is closed under it, comes to what the language says: at least
+/// two are, or exactly one is and the box is closed under it.
+pub fn one_is_the_only()
+    ensures { OneIsTheOnly }
 {}

@@ -14,5 +14,5 @@ mod tests;
 
 pub use laws::{
     closure_is_unique, joins_are_closed, lawful_constraints_suit, negations_are_denied,
-    singles_tell, solutions_are_in_closures, wider_boxes_keep,
+    one_is_the_only, singles_tell, solutions_are_in_closures, wider_boxes_keep,
 };

@@ -9,4 +9,5 @@ fn the_laws_are_stated() {
     singles_tell();
     solutions_are_in_closures();
     negations_are_denied();
+    one_is_the_only();
 }
