@@ -128,6 +128,15 @@ pub fn holds_over<V: Values>(con: &Con, s: &V) -> bool
     meets(con, s, &[])
 }
 
+/// Whether the constraint holds beside these tuple lists, where `s` tells the value of each variable.
+pub fn holds_beside<V: Values>(con: &Con, s: &V, lists: &[Tuples]) -> bool
+    requires meant { IsMeant lists.now con.now }
+    requires valued { (n : ℕ) → IsValue (V.values s.now n) }
+    ensures { IsTrue result ↔ HoldsOver lists.now (V.values s.now) con.now }
+{
+    meets(con, s, lists)
+}
+
 /// Whether the constraint holds under the assignment, which has the value of each variable at its number, and 0 of
 /// those that it doesn't reach. The tuple lists are those of the instance.
 pub fn holds(inst: &Instance, con: &Con, s: &[i64]) -> bool

@@ -7,7 +7,7 @@ use crate::counts::{agreeing, all_differ, differing, distinct_count, occurrences
 use crate::orders::{is_below, is_entry, is_greatest, is_least};
 use crate::sets::{in_intervals, is_in, is_tuple_of};
 use crate::sums::sum;
-use crate::{Values, checks, holds, holds_over};
+use crate::{Values, checks, holds, holds_beside, holds_over, value_at};
 use mn_model::{Con, Cons, Instance, Ints, NoMemory, Tab, Term, Terms, VarId};
 use std::alloc::Global;
 use std::test::Fail;
@@ -53,6 +53,14 @@ fn forms_of_two_numbers(rt: HostRuntime) {
     for (x, y, k, holds) in [(3, 5, -2, true), (4, 5, -2, false), (-1, -3, 2, true)] {
         assert_eq!(rt; says(&Con::Ineq(number(x), number(y), i64::from(k))), holds);
     }
+}
+
+#[test]
+fn values_are_told(rt: HostRuntime) {
+    assert_eq!(rt; value_at(Term::Var(VarId::new(1)), &Parity), 1);
+    assert_eq!(rt; value_at(Term::Not(VarId::new(1)), &Parity), 0);
+    let both = Con::Eq(Term::Var(VarId::new(3)), number(1));
+    assert!(rt; holds_beside(&both, &Parity, &[]));
 }
 
 fn divides(x: i8, y: i8, z: i8) -> bool {
