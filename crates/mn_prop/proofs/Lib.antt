@@ -1,0 +1,10 @@
+pub mod Bounding
+pub mod Changing
+pub mod Counting
+pub mod Going
+pub mod PlaceLemmas
+pub mod Ready
+pub mod Stepping
+pub mod Testing
+pub mod Trying
+pub mod Valued

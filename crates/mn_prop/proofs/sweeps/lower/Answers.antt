@@ -1,0 +1,84 @@
+use Rattle.std.proofs.Common.{◌∙◌, FitsSigned, rules, subst, sym, true≢false, w64}
+use Rattle.std.proofs.lemmas.Int.{to_z-of_z}
+use Rattle.std.proofs.lemmas.Option.{slice_get_within}
+use Rattle.mn_model.specs.Parts.{places}
+use Rattle.mn_closure.specs.Supports.{Supported}
+use Rattle.mn_prop.specs.Passes.{IsReady}
+use Rattle.mn_prop.proofs.Counting.{removed_fewer}
+use Rattle.mn_prop.proofs.Ready.{ready_named}
+use Rattle.mn_prop.proofs.Testing.{end_may, greatest_end, lower_fails, lowered}
+use Rattle.mn_prop.proofs.sweeps.lower.Goals as goal
+
+pub hi-a-requires : goal.hi-a-requires
+hi-a-requires g c =
+    let lists = g.L.Leaf.lists c.args.leaf.now in
+    let con = g.L.Leaf.con c.args.leaf.now in
+    let s = c.loop-t.c.doms in
+    let is = c.lawful.ensures.boxes.now in
+    let ready = subst (λ vars. IsReady vars lists con) (sym c.loop-t.invariant.takes.vars) c.requires.ready in
+    let named = ready_named s.vars lists con s.sets c.args.i c.args.t is ready c.requires.stands in
+    named
+
+pub supported-requires-clause-ready : goal.supported-requires-clause-ready
+supported-requires-clause-ready g c =
+    let lists = g.L.Leaf.lists c.args.leaf.now in
+    let con = g.L.Leaf.con c.args.leaf.now in
+    let s = c.loop-t.c.doms in
+    let is = c.lawful.ensures.boxes.now in
+    let ready = subst (λ vars. IsReady vars lists con) (sym c.loop-t.invariant.takes.vars) c.requires.ready in
+    let named = ready_named s.vars lists con s.sets c.args.i c.args.t is ready c.requires.stands in
+    ready
+
+pub supported-requires-clause-place : goal.supported-requires-clause-place
+supported-requires-clause-place g c = slice_get_within (places (g.L.Leaf.con c.args.leaf.now)) c.args.i c.args.t c.requires.stands
+
+pub remove-requires-clause-may : goal.remove-requires-clause-may
+remove-requires-clause-may g c =
+    let lists = g.L.Leaf.lists c.args.leaf.now in
+    let con = g.L.Leaf.con c.args.leaf.now in
+    let s = c.loop-t.c.doms in
+    let is = c.lawful.ensures.boxes.now in
+    let ready = subst (λ vars. IsReady vars lists con) (sym c.loop-t.invariant.takes.vars) c.requires.ready in
+    let named = ready_named s.vars lists con s.sets c.args.i c.args.t is ready c.requires.stands in
+    let fits : FitsSigned w64 c.hi-a.result = search rules in
+    rw (to_z-of_z w64 c.hi-a.result fits) (end_may s.vars s.sets c.args.t c.hi-a.result (greatest_end s.vars s.sets c.args.t c.hi-a.result is c.hi-a.ensures.greatest))
+
+pub loop-t-smaller : goal.loop-t-smaller
+loop-t-smaller g c =
+    let lists = g.L.Leaf.lists c.args.leaf.now in
+    let con = g.L.Leaf.con c.args.leaf.now in
+    let s = c.loop-t.c.doms in
+    let is = c.lawful.ensures.boxes.now in
+    let ready = subst (λ vars. IsReady vars lists con) (sym c.loop-t.invariant.takes.vars) c.requires.ready in
+    let named = ready_named s.vars lists con s.sets c.args.i c.args.t is ready c.requires.stands in
+    let fits : FitsSigned w64 c.hi-a.result = search rules in
+    let changed = rw (to_z-of_z w64 c.hi-a.result fits) at c.in_ok-remove.ensures in
+    removed_fewer c.args.t c.hi-a.result c.loop-t.c c.remove.new.self c.in_ok-remove.field-0 is named c.hi-a.ensures.greatest.there changed
+
+pub loop-t-preserved : goal.loop-t-preserved
+loop-t-preserved g c =
+    let lists = g.L.Leaf.lists c.args.leaf.now in
+    let con = g.L.Leaf.con c.args.leaf.now in
+    let s = c.loop-t.c.doms in
+    let is = c.lawful.ensures.boxes.now in
+    let ready = subst (λ vars. IsReady vars lists con) (sym c.loop-t.invariant.takes.vars) c.requires.ready in
+    let named = ready_named s.vars lists con s.sets c.args.i c.args.t is ready c.requires.stands in
+    let fits : FitsSigned w64 c.hi-a.result = search rules in
+    let exact = rw (to_z-of_z w64 c.hi-a.result fits) at c.supported.ensures in
+    let unsupported : Supported lists con c.args.i c.hi-a.result s.sets → ⊥ = λ supported. true≢false (sym (exact.1 supported) ∙ c.if-supported.false) in
+    let changed = rw (to_z-of_z w64 c.hi-a.result fits) at c.in_ok-remove.ensures in
+    lowered lists con c.args.i c.args.t c.hi-a.result c.args.c.now c.loop-t.c c.remove.new.self c.in_ok-remove.field-0 c.loop-t.invariant is named c.hi-a.ensures.greatest unsupported changed
+
+pub returns-in_err-remove : goal.returns-in_err-remove
+returns-in_err-remove g c =
+    let lists = g.L.Leaf.lists c.args.leaf.now in
+    let con = g.L.Leaf.con c.args.leaf.now in
+    let s = c.loop-t.c.doms in
+    let is = c.lawful.ensures.boxes.now in
+    let ready = subst (λ vars. IsReady vars lists con) (sym c.loop-t.invariant.takes.vars) c.requires.ready in
+    let named = ready_named s.vars lists con s.sets c.args.i c.args.t is ready c.requires.stands in
+    let fits : FitsSigned w64 c.hi-a.result = search rules in
+    let exact = rw (to_z-of_z w64 c.hi-a.result fits) at c.supported.ensures in
+    let unsupported : Supported lists con c.args.i c.hi-a.result s.sets → ⊥ = λ supported. true≢false (sym (exact.1 supported) ∙ c.if-supported.false) in
+    let changed = rw (to_z-of_z w64 c.hi-a.result fits) at c.in_err-remove.ensures in
+    lower_fails lists con c.args.i c.args.t c.hi-a.result c.args.c.now c.loop-t.c c.remove.new.self c.in_err-remove.field-0.0 c.from_residual.result c.loop-t.invariant is named c.hi-a.ensures.greatest unsupported changed c.from_residual.ensures.0

@@ -1,0 +1,252 @@
+ghost use Rattle.std.specs.Prelude.{◌≡◌, ◌↔◌, ◌++◌, ◌∷◌, [], IfOk, IsTrue, OnErr, OnOk, false, int_le, int_lt};
+ghost use Rattle.std.specs.Ordering.{int_eq};
+ghost use Rattle.mn_boxes.specs.Boxes.{declared_variables};
+ghost use Rattle.mn_boxes.specs.Places.{PlaceHas};
+ghost use Rattle.mn_domains.specs.Changes.{is_not};
+ghost use Rattle.mn_prop.specs.Contexts.{IsAnswer, IsAnswerIf, IsTurned};
+
+use mn_boxes::Moved;
+use mn_domains::{Doms, Emptied};
+use mn_model::{Instance, Term, VarId};
+use std::alloc::AllocError;
+use std::marker::Model;
+
+/// No value would stay.
+#[derive(Clone, Copy, Debug, PartialEq, Eq)]
+pub struct Fail;
+
+/// The sets that propagators narrow, by the places of their constraints. Contracts see the sets.
+#[derive(Drop)]
+pub struct Ctx {
+    doms: Doms,
+}
+
+impl Model for Ctx {
+    ghost use Rattle.mn_prop.specs.Contexts.{AreValued, Context};
+
+    ghost Value = { Context };
+
+    ghost view = { λ c. record { doms = c.doms } };
+
+    ghost invariant = { λ c. AreValued c.doms.vars };
+}
+
+// The value of a variable that is `a` at the place of one less it. No value of a model is lost where this is too large.
+fn turned(a: i64) -> i64
+    ensures { IsTurned a result }
+{
+    1i64.saturating_sub(a)
+}
+
+// What is answered of a change of a variable's set.
+fn answer(change: Result<Moved, Emptied>) -> Result<(), Fail>
+    ensures { IsAnswer change result }
+{
+    match change {
+        Ok(_) => Ok(()),
+        Err(Emptied) => Err(Fail),
+    }
+}
+
+// What is answered of a constant.
+fn answer_if(stays: bool) -> Result<(), Fail>
+    ensures { IsAnswerIf stays result }
+{
+    if stays { Ok(()) } else { Err(Fail) }
+}
+
+impl Ctx {
+    ghost use Rattle.mn_closure.specs.Closed.{IsAlone};
+    ghost use Rattle.mn_closure.specs.Supports.{IsOpen};
+    ghost use Rattle.mn_domains.specs.Changes.{Restored};
+    ghost use Rattle.mn_domains.specs.Sets.{AreBoxes};
+    ghost use Rattle.mn_prop.specs.Contexts.{AreValued, ChangedAt, IsGreatestAt, IsLeastAt, IsNamed, IsNextAt, MayGoAt, place_hi, place_lo};
+
+    /// Takes the sets of the instance's variables.
+    pub fn build(inst: &Instance, doms: Doms) -> Result<Ctx, AllocError>
+        requires { doms.vars ≡ declared_variables inst.now.decls }
+        ensures { IfOk result (λ c. c.doms ≡ doms) }
+    {
+        inst.lawful();
+        Ok(Ctx { doms })
+    }
+
+    /// What the sets keep: now and whenever they were saved they are a box, of values within the limits.
+    pub fn lawful(&self)
+        ensures boxes { AreBoxes self.now.doms }
+        ensures valued { AreValued self.now.doms.vars }
+    {
+        self.doms.lawful();
+    }
+
+    /// The sets.
+    pub fn doms(&self) -> &Doms
+        ensures { result.now ≡ self.now.doms }
+    {
+        &self.doms
+    }
+
+    /// The least value of the place.
+    pub fn lo(&self, t: Term) -> i64
+        requires { IsNamed self.now.doms.sets t }
+        ensures is { result ≡ place_lo self.now.doms.sets t }
+        ensures least { IsLeastAt self.now.doms.sets t result }
+    {
+        self.doms.lawful();
+        match t {
+            Term::Var(v) => self.doms.lo(v),
+            Term::Const(k) => k,
+            Term::Not(v) => 1 - self.doms.hi(v),
+        }
+    }
+
+    /// The greatest value of the place.
+    pub fn hi(&self, t: Term) -> i64
+        requires { IsNamed self.now.doms.sets t }
+        ensures is { result ≡ place_hi self.now.doms.sets t }
+        ensures greatest { IsGreatestAt self.now.doms.sets t result }
+    {
+        self.doms.lawful();
+        match t {
+            Term::Var(v) => self.doms.hi(v),
+            Term::Const(k) => k,
+            Term::Not(v) => 1 - self.doms.lo(v),
+        }
+    }
+
+    /// Whether `a` is a value of the place.
+    pub fn has(&self, t: Term, a: i64) -> bool
+        requires { IsNamed self.now.doms.sets t }
+        ensures { IsTrue result ↔ PlaceHas self.now.doms.sets t a }
+    {
+        self.doms.lawful();
+        match t {
+            Term::Var(v) => self.doms.has(v, a),
+            Term::Const(k) => k == a,
+            Term::Not(v) => self.doms.has(v, turned(a)),
+        }
+    }
+
+    /// Whether the place has one value alone.
+    pub fn is_single(&self, t: Term) -> bool
+        requires { IsNamed self.now.doms.sets t }
+        ensures alone { IsTrue result ↔ IsAlone self.now.doms.sets t (place_lo self.now.doms.sets t) }
+        ensures two { result ≡ false → IsOpen self.now.doms.sets t }
+    {
+        self.lo(t) == self.hi(t)
+    }
+
+    /// The least value of the place that is greater than `a`.
+    pub fn next(&self, t: Term, a: i64) -> Option<i64>
+        requires { IsNamed self.now.doms.sets t }
+        ensures { IsNextAt self.now.doms.sets t a result }
+    {
+        self.doms.lawful();
+        match t {
+            Term::Var(v) => self.doms.next(v, a),
+            Term::Const(k) => { if a < k { Some(k) } else { None } }
+            Term::Not(v) => self.next_turned(v, a),
+        }
+    }
+
+    // The same of one less a variable. Its values are tried one by one, since a 0/1 variable has two of them at most.
+    fn next_turned(&self, v: VarId, a: i64) -> Option<i64>
+        requires { IsNamed self.now.doms.sets (Term.Not v) }
+        ensures { IsNextAt self.now.doms.sets (Term.Not v) a result }
+    {
+        let lo = self.lo(Term::Not(v));
+        let hi = self.hi(Term::Not(v));
+        if hi <= a {
+            return None;
+        }
+        if a < lo {
+            return Some(lo);
+        }
+        let mut b = a + 1;
+        while !self.has(Term::Not(v), b) {
+            b += 1;
+        }
+        Some(b)
+    }
+
+    /// Whether `a` alone may be taken out of the place.
+    pub fn may_remove(&self, t: Term, a: i64) -> bool
+        requires { IsNamed self.now.doms.sets t }
+        ensures { IsTrue result ↔ MayGoAt self.now.doms.vars t self.now.doms.sets a }
+    {
+        self.doms.lawful();
+        match t {
+            Term::Var(v) => self.doms.may_remove(v, a),
+            Term::Const(_) => true,
+            Term::Not(v) => self.doms.may_remove(v, turned(a)),
+        }
+    }
+
+    /// Keeps the values that are at least `a`.
+    pub fn set_lo(&mut self, t: Term, a: i64) -> Result<(), Fail>
+        requires { IsNamed self.old.doms.sets t }
+        ensures { ChangedAt (λ x. int_le a x) t self.old self.new result }
+    {
+        self.doms.lawful();
+        match t {
+            Term::Var(v) => answer(self.doms.set_lo(v, a)),
+            Term::Const(k) => answer_if(a <= k),
+            Term::Not(v) => answer(self.doms.set_hi(v, turned(a))),
+        }
+    }
+
+    /// Keeps the values that are at most `a`.
+    pub fn set_hi(&mut self, t: Term, a: i64) -> Result<(), Fail>
+        requires { IsNamed self.old.doms.sets t }
+        ensures { ChangedAt (λ x. int_le x a) t self.old self.new result }
+    {
+        self.doms.lawful();
+        match t {
+            Term::Var(v) => answer(self.doms.set_hi(v, a)),
+            Term::Const(k) => answer_if(k <= a),
+            Term::Not(v) => answer(self.doms.set_lo(v, turned(a))),
+        }
+    }
+
+    /// Keeps `a` alone.
+    pub fn assign(&mut self, t: Term, a: i64) -> Result<(), Fail>
+        requires { IsNamed self.old.doms.sets t }
+        ensures { ChangedAt (λ x. int_eq x a) t self.old self.new result }
+    {
+        self.doms.lawful();
+        match t {
+            Term::Var(v) => answer(self.doms.assign(v, a)),
+            Term::Const(k) => answer_if(k == a),
+            Term::Not(v) => answer(self.doms.assign(v, turned(a))),
+        }
+    }
+
+    /// Keeps the values other than `a`.
+    pub fn remove(&mut self, t: Term, a: i64) -> Result<(), Fail>
+        requires named { IsNamed self.old.doms.sets t }
+        requires may { MayGoAt self.old.doms.vars t self.old.doms.sets a }
+        ensures { ChangedAt (is_not a) t self.old self.new result }
+    {
+        self.doms.lawful();
+        match t {
+            Term::Var(v) => answer(self.doms.remove(v, a)),
+            Term::Const(k) => answer_if(k != a),
+            Term::Not(v) => answer(self.doms.remove(v, turned(a))),
+        }
+    }
+
+    /// Keeps a copy of all sets.
+    pub fn save(&mut self) -> Result<(), AllocError>
+        ensures ok { OnOk result (self.new.doms ≡ record self.old.doms { saved = self.old.doms.saved ++ self.old.doms.sets ∷ [] }) }
+        ensures err { OnErr result (self.new ≡ self.old) }
+    {
+        self.doms.save()
+    }
+
+    /// Goes back to the sets that were saved last. False exactly where none are saved.
+    pub fn restore(&mut self) -> bool
+        ensures { Restored self.old.doms self.new.doms result }
+    {
+        self.doms.restore()
+    }
+}
