@@ -1,0 +1,4 @@
+pub mod Deciding
+pub mod Enclosing
+pub mod Literals
+pub mod Rounding
