@@ -1,0 +1,14 @@
+pub mod Alike
+pub mod Chosen
+pub mod Counting
+pub mod Leaving
+pub mod Parting
+pub mod Pathing
+pub mod Placing
+pub mod Running
+pub mod Seeing
+pub mod Settling
+pub mod Stacking
+pub mod Stepping
+pub mod Turning
+pub mod Visiting

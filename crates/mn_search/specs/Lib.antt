@@ -1,0 +1,5 @@
+pub mod Keeping
+pub mod Laws
+pub mod Left
+pub mod Turns
+pub mod Visits
