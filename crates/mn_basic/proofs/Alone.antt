@@ -1,0 +1,150 @@
+-- What is supported where all other places have one value alone.
+use Rattle.std.proofs.Common.{◌≡◌, ◌≢◌, ◌↔◌, ℕ, zero, suc, ◌<◌, ◌≤◌, ℤ, ◌⊎◌, inl, inr, Bool, true, false, IsTrue, List, [], ◌∷◌, length, map, get_or, slice_get, Some, Ok, ◌+◌, refl, sym, subst, ap, ◌∙◌, arith, true≢false}
+use Rattle.std.proofs.lemmas.Option.{get_or_from_slice_get, slice_get-get_or, slice_get_read, slice_get_within}
+use Rattle.mn_model.specs.Decided.{Decided, decide_nat}
+use Rattle.mn_model.specs.Parts.{places}
+use Rattle.mn_model.specs.declared.constraint.Con.{Con}
+use Rattle.mn_model.specs.declared.constraint.Con.TheVariants as con
+use Rattle.mn_model.specs.declared.constraint.Term.{Term}
+use Rattle.mn_model.specs.declared.declaration.Tuples.{Tuples}
+use Rattle.mn_boxes.specs.Places.{PlaceHas}
+use Rattle.mn_meaning.specs.Meaning.{HoldsOver, Meets, at, value_of}
+use Rattle.mn_closure.specs.Closed.{IsAlone, LeafClosed}
+use Rattle.mn_closure.specs.Levels.{Arc, Last, level}
+use Rattle.mn_closure.specs.Supports.{Choice, ChoiceWith, IsOpen, OtherOpen, StandsAt, Supported, SupportedAt}
+use Rattle.mn_boxes.specs.Sets.{Variable}
+use Rattle.mn_domains.specs.Sets.{Sets}
+use Rattle.mn_prop.specs.Contexts.{IsNamed, place_lo}
+use Rattle.mn_prop.specs.Passes.{IsStep}
+use Rattle.mn_prop.proofs.Stepping.{no_step}
+use Rattle.mn_basic.specs.Trials.{AlwaysOtherOpen, IsTrial, IsWhole, OthersAlone, is_pair}
+
+-- every form but those of a pair is asked as a whole
+pub whole : (c : Con) → is_pair c ≡ false → IsWhole c
+whole (con.Eq x y) none = absurd (true≢false none)
+whole (con.Diseq x y) none = absurd (true≢false none)
+whole (con.Ineq x y k) none = absurd (true≢false none)
+whole (con.Watchless x y) none = absurd (true≢false none)
+whole (con.Minuseq x y) none = absurd (true≢false none)
+whole (con.Abs x y) none = absurd (true≢false none)
+whole (con.WLiteral x k) none = inr (refl, omega arith)
+whole (con.WNotliteral x k) none = inr (refl, omega arith)
+whole (con.WInset x ks) none = inr (refl, omega arith)
+whole (con.WNotinset x ks) none = inr (refl, omega arith)
+whole (con.WInrange x k k2) none = inr (refl, omega arith)
+whole (con.WNotinrange x k k2) none = inr (refl, omega arith)
+whole (con.WInintervalset x ks) none = inr (refl, omega arith)
+whole con.Always none = inr (refl, omega arith)
+whole con.Never none = inr (refl, omega arith)
+whole c none = inl refl
+
+-- choices that agree at each place are the same
+same_choice : (box : List (List ℤ)) (ts : List Term) (xs ys : List ℤ) → Choice box ts xs → Choice box ts ys
+    → ((j : ℕ) (t : Term) → slice_get ts j ≡ Some t → PlaceHas box t (at xs j) → PlaceHas box t (at ys j) → at xs j ≡ at ys j) → xs ≡ ys
+same_choice box [] [] [] one another agree = refl
+same_choice box [] [] (y ∷ ys) one another agree = absurd another
+same_choice box [] (x ∷ xs) ys one another agree = absurd one
+same_choice box (t ∷ ts) [] ys one another agree = absurd one
+same_choice box (t ∷ ts) (x ∷ xs) [] one another agree = absurd another
+same_choice box (t ∷ ts) (x ∷ xs) (y ∷ ys) one another agree =
+    let first : x ≡ y = agree 0 t refl one.0 another.0 in
+    let later : xs ≡ ys = same_choice box ts xs ys one.1 another.1 (λ j u stands. agree (suc j) u stands) in
+    λ i. first i ∷ later i
+
+-- the values of a trial are a choice
+trial_choice : (box : List (List ℤ)) (f : Term → ℤ) (ts : List Term) → ((j : ℕ) (t : Term) → slice_get ts j ≡ Some t → PlaceHas box t (f t)) → Choice box ts (map f ts)
+trial_choice box f [] there = tt
+trial_choice box f (t ∷ ts) there = (there 0 t refl, trial_choice box f ts (λ j u stands. there (suc j) u stands))
+
+value_there : (f : Term → ℤ) (ts : List Term) (i : ℕ) (t : Term) → slice_get ts i ≡ Some t → at (map f ts) i ≡ f t
+value_there f [] i t stands = absurd (cc)
+value_there f (u ∷ ts) zero t stands = ap f (cc)
+value_there f (u ∷ ts) (suc i) t stands = value_there f ts i t stands
+
+-- all places of the constraint name variables or are constants
+abbrev pub AreNamed : Con → List (List ℤ) → Type 0
+AreNamed c box = (j : ℕ) (t : Term) → StandsAt c j t → IsNamed box t
+
+holds_choice : (lists : List Tuples) (c : Con) (i : ℕ) (t : Term) (a : ℤ) (box : List (List ℤ)) (values : ℕ → ℤ) → StandsAt c i t → AreNamed c box → IsTrial box t a values → HoldsOver lists values c → ChoiceWith lists c i a box
+holds_choice lists c i t a box values stands named trial holds = record {
+  values = map (value_of values) (places c);
+  chosen = trial_choice box (value_of values) (places c) (λ j u at. trial.there u (named j u at));
+  given = value_there (value_of values) (places c) i t stands ∙ trial.given;
+  meets = holds;
+}
+
+choice_holds : (lists : List Tuples) (c : Con) (i : ℕ) (t : Term) (a : ℤ) (box : List (List ℤ)) (values : ℕ → ℤ) → StandsAt c i t → AreNamed c box → OthersAlone c i box → IsTrial box t a values → ChoiceWith lists c i a box → HoldsOver lists values c
+choice_holds lists c i t a box values stands named alone trial choice =
+    subst (Meets lists c) (same_choice box (places c) choice.values (map (value_of values) (places c)) choice.chosen (trial_choice box (value_of values) (places c) (λ j u at. trial.there u (named j u at))) agree) choice.meets
+  where
+    agree : (j : ℕ) (u : Term) → StandsAt c j u → PlaceHas box u (at choice.values j) → PlaceHas box u (at (map (value_of values) (places c)) j) → at choice.values j ≡ at (map (value_of values) (places c)) j
+    agree j u at_j one another = by (decide_nat j i)
+      where
+        by : Decided (j ≡ i) → at choice.values j ≡ at (map (value_of values) (places c)) j
+        by (inl same) = ap (at choice.values) same ∙ (choice.given ∙ sym (ap (at (map (value_of values) (places c))) same ∙ (value_there (value_of values) (places c) i t stands ∙ trial.given)))
+        by (inr differs) = alone j u at_j differs (at choice.values j) one ∙ sym (alone j u at_j differs (at (map (value_of values) (places c)) j) another)
+
+choice_supported : (lists : List Tuples) (c : Con) (i : ℕ) (a : ℤ) (box : List (List ℤ)) → IsWhole c → ChoiceWith lists c i a box → Supported lists c i a box
+choice_supported lists c i a box (inl last) choice = subst (λ l. SupportedAt l lists c i a box) (sym last) (inr choice)
+choice_supported lists c i a box (inr arc) choice = subst (λ l. SupportedAt l lists c i a box) (sym arc.0) choice
+
+pub open_supported : (lists : List Tuples) (c : Con) (i : ℕ) (a : ℤ) (box : List (List ℤ)) → IsWhole c → i < length (places c) → OtherOpen c i box → Supported lists c i a box
+open_supported lists c i a box (inl last) within other = subst (λ l. SupportedAt l lists c i a box) (sym last) (inl other)
+open_supported lists c i a box (inr arc) within other =
+    absurd (other.other (let below : other.place < length (places c) = slice_get_within (places c) other.place other.term other.stands in let few : length (places c) ≤ 1 = arc.1 in omega (arith, below, few, within)))
+
+supported_choice : (lists : List Tuples) (c : Con) (i : ℕ) (a : ℤ) (box : List (List ℤ)) → IsWhole c → OthersAlone c i box → Supported lists c i a box → ChoiceWith lists c i a box
+supported_choice lists c i a box (inl last) alone supported = by (subst (λ l. SupportedAt l lists c i a box) last supported)
+  where
+    by : OtherOpen c i box ⊎ ChoiceWith lists c i a box → ChoiceWith lists c i a box
+    by (inl o) = absurd (o.is_open.differ (alone o.place o.term o.stands o.other o.is_open.one o.is_open.has_one ∙ sym (alone o.place o.term o.stands o.other o.is_open.another o.is_open.has_another)))
+    by (inr choice) = choice
+supported_choice lists c i a box (inr arc) alone supported = subst (λ l. SupportedAt l lists c i a box) arc.0 supported
+
+-- where all other places have one value alone, it is supported exactly where the constraint holds of the trial
+pub trial_tells : (lists : List Tuples) (c : Con) (i : ℕ) (t : Term) (a : ℤ) (box : List (List ℤ)) (values : ℕ → ℤ) (m : Bool) → IsWhole c → StandsAt c i t → AreNamed c box → OthersAlone c i box → IsTrial box t a values
+    → IsTrue m ↔ HoldsOver lists values c → IsTrue m ↔ Supported lists c i a box
+trial_tells lists c i t a box values m is stands named alone trial tells = (
+  λ e. choice_supported lists c i a box is (holds_choice lists c i t a box values stands named trial (tells.0 e)),
+  λ supported. tells.1 (choice_holds lists c i t a box values stands named alone trial (supported_choice lists c i a box is alone supported)),
+)
+
+-- the term at a place
+pub placed_at : (c : Con) (ts : List Term) (j : ℕ) (d : Term) → ts ≡ places c → j < length ts → StandsAt c j (get_or ts j d)
+placed_at c ts j d placed below = subst (λ us. slice_get us j ≡ Some (get_or ts j d)) placed (slice_get-get_or ts j d below)
+
+pub index_stands : (c : Con) (ts : List Term) (i : ℕ) (x : Term) → ts ≡ places c → i < length (places c) → x ≡ get_or ts i x → StandsAt c i x
+index_stands c ts i x placed within read = let same = ap length placed in subst (λ us. slice_get us i ≡ Some x) placed (slice_get_read ts (length ts) i x refl (omega (arith, same, within)) read)
+
+-- the places before j other than i have one value alone
+abbrev pub AloneBefore : List Term → ℕ → ℕ → List (List ℤ) → Type 0
+AloneBefore ts j i box = (k : ℕ) (t : Term) → slice_get ts k ≡ Some t → k < j → k ≢ i → IsAlone box t (place_lo box t)
+
+pub one_more_alone : (ts us : List Term) (j i : ℕ) (d : Term) (box : List (List ℤ)) → us ≡ ts → AloneBefore ts j i box → (j ≢ i → IsAlone box (get_or us j d) (place_lo box (get_or us j d))) → AloneBefore ts (j + 1) i box
+one_more_alone ts us j i d box is before here k t at_k below differs = by (decide_nat k j)
+  where
+    by : Decided (k ≡ j) → IsAlone box t (place_lo box t)
+    by (inl same) =
+        let stands : slice_get us j ≡ Some t = subst (λ ws. slice_get ws j ≡ Some t) (sym is) (subst (λ n. slice_get ts n ≡ Some t) same at_k) in
+        subst (λ u. IsAlone box u (place_lo box u)) (get_or_from_slice_get us j t d stands) (here (λ e. differs (same ∙ e)))
+    by (inr other) = before k t at_k (omega (arith, below, other)) differs
+
+pub all_alone : (c : Con) (ts : List Term) (j i : ℕ) (box : List (List ℤ)) → ts ≡ places c → length ts ≤ j → AloneBefore ts j i box → OthersAlone c i box
+all_alone c ts j i box placed past before k t stands differs =
+    let at_k : slice_get ts k ≡ Some t = subst (λ us. slice_get us k ≡ Some t) (sym placed) stands in
+    let below : k < length ts = slice_get_within ts k t at_k in
+    before k t at_k (omega (arith, below, past)) differs
+
+-- two open places
+pub always_open : (c : Con) (j : ℕ) (t : Term) (box : List (List ℤ)) → StandsAt c j t → IsOpen box t → OtherOpen c j box → AlwaysOtherOpen c box
+always_open c j t box stands two other i = by (decide_nat j i)
+  where
+    by : Decided (j ≡ i) → OtherOpen c i box
+    by (inl same) = subst (λ n. OtherOpen c n box) same other
+    by (inr differs) = record { place = j; term = t; stands = stands; other = differs; is_open = two }
+
+pub open_closed : (vars : List Variable) (lists : List Tuples) (c : Con) (s : Sets) → IsWhole c → AlwaysOtherOpen c s.sets → IsStep (LeafClosed vars lists c) s s (Ok tt)
+open_closed vars lists c s is always = no_step (LeafClosed vars lists c) s (record {
+  bare = λ none. (let other = always 0 in let below : other.place < length (places c) = slice_get_within (places c) other.place other.term other.stands in absurd (let same = ap length none in omega (arith, below, same)));
+  supported = λ i t a stands asked. open_supported lists c i a s.sets is (slice_get_within (places c) i t stands) (always i);
+})

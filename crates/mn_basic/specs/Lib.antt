@@ -1,0 +1,5 @@
+pub mod Basics
+pub mod Literals
+pub mod Narrowing
+pub mod Pairs
+pub mod Trials

@@ -1,0 +1,28 @@
+//! Narrowing for every constraint, one at a time.
+//!
+//! A `Basic` narrows the places of one constraint, with the promises of a `Runner`. Constraints that name one or two places
+//! have all their values supported at level Arc; every other one, and each that stands around others, is asked as a whole
+//! once one place alone has several values left.
+//!
+//! The crate stands on `mn_prop`, which says what narrowing owes, on `mn_meaning`, which tells whether a constraint holds, and
+//! on `mn_closure`, `mn_boxes`, `mn_domains` and `mn_model`.
+#![tactic(auto)]
+
+mod basic;
+mod differ;
+mod literal;
+mod order;
+mod pair;
+mod placing;
+mod relation;
+mod span;
+#[cfg(test)]
+mod tests;
+mod tie;
+mod trial;
+mod whole;
+
+pub use basic::Basic;
+pub use pair::Pair;
+pub use relation::Relation;
+pub use whole::Whole;

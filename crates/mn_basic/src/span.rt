@@ -1,0 +1,134 @@
+//! The numbers that a relation leaves to one place, by the ends of the other.
+ghost use Rattle.std.specs.Prelude.{◌≤ℤ◌, ℤ, neg_ℤ, pos};
+ghost use Rattle.std.proofs.Common.{nat_abs};
+ghost use Rattle.mn_prop.specs.Contexts.{IsNamed};
+ghost use Rattle.mn_prop.specs.Passes.{IsStep};
+
+use crate::relation::Relation;
+use mn_model::Term;
+use mn_prop::{Ctx, Fail, cut_hi, cut_lo};
+
+/// All numbers from one to another.
+#[derive(Clone, Copy, Debug, PartialEq, Eq)]
+pub(crate) struct Span {
+    lo: i128,
+    hi: i128,
+}
+
+impl Span {
+    ghost use Rattle.mn_basic.specs.Narrowing.{AllIn, IsIn, IsSmall};
+    ghost use Rattle.mn_basic.specs.Pairs.{IsTied, Related};
+
+    /// The numbers from one to another.
+    pub(crate) fn of(lo: i64, hi: i64) -> Span
+        ensures small { IsSmall result }
+        ensures all { (b : ℤ) → lo ≤ℤ b → b ≤ℤ hi → IsIn result b }
+    {
+        Span {
+            lo: i128::from(lo),
+            hi: i128::from(hi),
+        }
+    }
+
+    // Those with the other sign.
+    fn opposite(self) -> Span
+        requires { IsSmall self }
+        ensures { (b : ℤ) → IsIn self b → IsIn result (neg_ℤ b) }
+    {
+        Span {
+            lo: -self.hi,
+            hi: -self.lo,
+        }
+    }
+
+    // Those without their sign.
+    fn unsigned(self) -> Span
+        requires { IsSmall self }
+        ensures { (b : ℤ) → IsIn self b → IsIn result (pos (nat_abs b)) }
+    {
+        let hi = if -self.lo < self.hi {
+            self.hi
+        } else {
+            -self.lo
+        };
+        let lo = if self.lo > 0 {
+            self.lo
+        } else if self.hi < 0 {
+            -self.hi
+        } else {
+            0
+        };
+        Span { lo, hi }
+    }
+
+    // The least and the greatest number of another span that are in this one without their sign, or what is beyond them.
+    fn signed_lo(self, own: Span) -> i128
+        requires small { IsSmall self }
+        requires own { IsSmall own }
+        ensures { (b : ℤ) → IsIn self (pos (nat_abs b)) → IsIn own b → result ≤ℤ b }
+    {
+        if own.lo > -self.lo { self.lo } else { -self.hi }
+    }
+
+    fn signed_hi(self, own: Span) -> i128
+        requires small { IsSmall self }
+        requires own { IsSmall own }
+        ensures { (b : ℤ) → IsIn self (pos (nat_abs b)) → IsIn own b → b ≤ℤ result }
+    {
+        if own.hi < self.lo { -self.lo } else { self.hi }
+    }
+
+    // The numbers of another span that are in this one without their sign.
+    fn signed(self, own: Span) -> Span
+        requires small { IsSmall self }
+        requires own { IsSmall own }
+        ensures { (b : ℤ) → IsIn self (pos (nat_abs b)) → IsIn own b → IsIn result b }
+    {
+        Span {
+            lo: self.signed_lo(own),
+            hi: self.signed_hi(own),
+        }
+    }
+
+    /// What stands in the relation to a number of the span.
+    pub(crate) fn first_of(self, relation: Relation) -> Span
+        requires { IsSmall self }
+        ensures { (a b : ℤ) → IsTied relation → Related relation a b → IsIn self b → IsIn result a }
+    {
+        match relation {
+            Relation::Opposite => self.opposite(),
+            Relation::Absolute => self.unsigned(),
+            Relation::Equal => self,
+            Relation::Differ => self,
+            Relation::AtMost(_) => self,
+            Relation::Below => self,
+        }
+    }
+
+    /// What a number of the span stands in the relation to, and is in another span itself.
+    pub(crate) fn second_of(self, relation: Relation, own: Span) -> Span
+        requires small { IsSmall self }
+        requires own { IsSmall own }
+        ensures { (a b : ℤ) → IsTied relation → Related relation a b → IsIn self a → IsIn own b → IsIn result b }
+    {
+        match relation {
+            Relation::Opposite => self.opposite(),
+            Relation::Absolute => self.signed(own),
+            Relation::Equal => self,
+            Relation::Differ => self,
+            Relation::AtMost(_) => self,
+            Relation::Below => self,
+        }
+    }
+
+    /// Keeps the values of the place that are in the span.
+    pub(crate) fn keep(self, c: &mut Ctx, t: Term) -> Result<(), Fail>
+        requires { IsNamed c.old.doms.sets t }
+        ensures { IsStep (AllIn self t) c.old.doms c.new.doms result }
+    {
+        c.lawful();
+        cut_lo(c, t, self.lo)?;
+        c.lawful();
+        cut_hi(c, t, self.hi)
+    }
+}

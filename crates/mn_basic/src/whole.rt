@@ -1,0 +1,118 @@
+//! Constraints that are asked as a whole.
+ghost use Rattle.std.specs.Prelude.{◌≡◌, IfOk, false, true};
+ghost use Rattle.mn_model.specs.Parts.{places};
+ghost use Rattle.mn_closure.specs.Closed.{LeafClosed};
+ghost use Rattle.mn_closure.specs.Supports.{OtherOpen};
+ghost use Rattle.mn_prop.specs.Passes.{IsReady, IsStep};
+ghost use Rattle.mn_basic.specs.Trials.{AlwaysOtherOpen, OthersAlone, is_pair};
+
+use crate::placing::places_in;
+use crate::trial::Trial;
+use mn_meaning::{Assigned, holds_beside};
+use mn_model::{Con, Instance, Term, Tuples};
+use mn_prop::{Ctx, Fail, Leaf, sweep};
+use std::alloc::{AllocError, Global};
+
+/// A constraint whose values are tested once all places but one have one value alone.
+#[derive(Drop)]
+pub struct Whole<'a> {
+    con: &'a Con,
+    lists: &'a [Tuples],
+    terms: Vec<Term>,
+    ghost placed: { terms.items ≡ places con.now },
+    ghost whole: { is_pair con.now ≡ false },
+}
+
+impl<'a> Whole<'a> {
+    /// The constraint, beside the tuple lists of the instance.
+    pub(crate) fn build(
+        alloc: Global,
+        inst: &'a Instance,
+        con: &'a Con,
+    ) -> Result<Whole<'a>, AllocError>
+        requires { is_pair con.now ≡ false }
+        ensures con { IfOk result (λ l. l.con.now ≡ con.now) }
+        ensures lists { IfOk result (λ l. l.lists.now ≡ inst.now.tuples) }
+    {
+        let terms = places_in(alloc, con)?;
+        Ok(Whole {
+            con,
+            lists: inst.tuples(),
+            terms,
+        })
+    }
+
+    /// Takes values that aren't supported, or fails.
+    pub(crate) fn narrow(&self, c: &mut Ctx) -> Result<(), Fail>
+        requires { IsReady c.old.doms.vars self.now.lists.now self.now.con.now }
+        ensures { IsStep (LeafClosed c.old.doms.vars self.now.lists.now self.now.con.now) c.old.doms c.new.doms result }
+    {
+        c.lawful();
+        if self.are_several_open(c) {
+            return Ok(());
+        }
+        sweep(self, c)
+    }
+
+    // Whether two places have several values, so that every value of every place is supported.
+    fn are_several_open(&self, c: &Ctx) -> bool
+        requires { IsReady c.now.doms.vars self.now.lists.now self.now.con.now }
+        ensures { result ≡ true → AlwaysOtherOpen self.now.con.now c.now.doms.sets }
+    {
+        c.lawful();
+        for (j, t) in self.terms.iter().enumerate() {
+            if !c.is_single(*t) {
+                return self.is_other_open(c, j);
+            }
+        }
+        false
+    }
+
+    // Whether a place other than `i` has several values.
+    fn is_other_open(&self, c: &Ctx, i: usize) -> bool
+        requires { IsReady c.now.doms.vars self.now.lists.now self.now.con.now }
+        ensures open { result ≡ true → OtherOpen self.now.con.now i c.now.doms.sets }
+        ensures alone { result ≡ false → OthersAlone self.now.con.now i c.now.doms.sets }
+    {
+        c.lawful();
+        for (j, t) in self.terms.iter().enumerate() {
+            if j != i && !c.is_single(*t) {
+                return true;
+            }
+        }
+        false
+    }
+}
+
+impl Leaf for Whole<'_> {
+    ghost con = { λ w. w.con.now };
+
+    ghost lists = { λ w. w.lists.now };
+
+    fn places(&self) -> usize {
+        self.terms.len()
+    }
+
+    fn term(&self, i: usize) -> Term {
+        self.terms[i]
+    }
+
+    fn supported(&self, c: &Ctx, i: usize, a: i64) -> bool {
+        c.lawful();
+        if self.is_other_open(c, i) {
+            return true;
+        }
+        holds_beside(self.con, &Trial::of(c, self.terms[i], a), self.lists)
+    }
+
+    fn bare(&self) -> bool {
+        if !self.terms.is_empty() {
+            return true;
+        }
+        holds_beside(self.con, &Assigned::new(&[]), self.lists)
+    }
+
+    fn by_ends(&self) -> bool {
+        false
+    }
+}
