@@ -9,6 +9,7 @@ use Rattle.mn_outside.specs.Content.{FileMap, file_at}
 use Rattle.mn_outside.specs.Faults.{HasRisen}
 use Rattle.mn_outside.specs.Reading.{line_ends}
 use Rattle.mn_reader.specs.Reads.{Reads}
+use Rattle.mn_driver.specs.Counting.{HasNone}
 use Rattle.mn_driver.specs.Explains.{Solves, Refuses, Found, Lost, Explains}
 use Rattle.mn_driver.specs.Loads.{Unloads}
 use Rattle.mn_driver.specs.Owes.{Yields, IsModelStatus, StoppedAt}
@@ -17,6 +18,7 @@ use Rattle.mn_driver.specs.Runs.{AddsLine, Tells, HoldsModel, HoldsLongText, Hol
 use Rattle.mn_driver.specs.Written.{WritesReport, WritesSome}
 use Rattle.mn_driver.specs.declared.load.Unloaded.{Unloaded}
 use Rattle.mn_driver.specs.declared.load.Unloaded.TheVariants as unloads
+use Rattle.mn_driver.specs.declared.status.Counts.{Counts}
 use Rattle.mn_driver.specs.declared.status.Status.{Status}
 use Rattle.mn_driver.specs.declared.status.Status.TheVariants.{Complete, Refused, Usage, ReadFault, WriteFault, NoMemory}
 use Rattle.mn_driver.specs.declared.status.Usage.{Usage as Rule}
@@ -103,7 +105,7 @@ module _ (old new : Option (List ℕ)) (before after : ℕ) where
   refused_as unloads.NoMemory refusal h = absurd h
 
   -- the statuses of a run that came to an instance
-  solved_status : (p : Problem) (status : Status) (n : ℕ) → Solves old new before after p status n → (status ≡ Complete) ⊎ (status ≡ WriteFault) ⊎ (status ≡ NoMemory)
+  solved_status : (p : Problem) (status : Status) (n : Counts) → Solves old new before after p status n → (status ≡ Complete) ⊎ (status ≡ WriteFault) ⊎ (status ≡ NoMemory)
   solved_status p Complete n h = inl refl
   solved_status p WriteFault n h = inr (inl refl)
   solved_status p NoMemory n h = inr (inr refl)
@@ -161,7 +163,7 @@ for_asked : (P : List ℕ → Type 0) (name : Option (List ℕ)) → ((model : L
 for_asked P None f = tt
 for_asked P (Some model) f = f model refl
 
-module _ (told : Option FileMap) (name : Option (List ℕ)) (unread read : List ℕ → ℕ) (old new : Option (List ℕ)) (before after : ℕ) (status : Status) (n : ℕ) (explained : Explains told name unread read old new before after status n) where
+module _ (told : Option FileMap) (name : Option (List ℕ)) (unread read : List ℕ → ℕ) (old new : Option (List ℕ)) (before after : ℕ) (status : Status) (n : Counts) (explained : Explains told name unread read old new before after status n) where
   -- a status that isn't that of words that ask for nothing tells of a run with a name
   told_of : (expected : Status) → (expected ≡ Usage (Unknown 0) → ⊥) → status ≡ expected
       → IsSomeAnd name (λ model. Found told name unread read old new before after model expected n ⊎ Lost told name unread read old new before after model expected n)
@@ -185,14 +187,14 @@ module _ (told : Option FileMap) (name : Option (List ℕ)) (unread read : List 
       each model (inl found) = (found.problem, found.is, found.solves.0, found.solves.1)
       each model (inr lost) = absurd (not_written old new before after lost.why lost.refuses)
 
-  pub read_fault : status ≡ ReadFault → IsSomeAnd name (λ model. HasRisen (unread model) (read model) × (n ≡ 0) × AddsLine old new before after [] read_line)
+  pub read_fault : status ≡ ReadFault → IsSomeAnd name (λ model. HasRisen (unread model) (read model) × HasNone n × AddsLine old new before after [] read_line)
   read_fault e = map_model name each (told_of ReadFault (λ d. cc) e)
     where
-      each : (model : List ℕ) → Found told name unread read old new before after model ReadFault n ⊎ Lost told name unread read old new before after model ReadFault n → HasRisen (unread model) (read model) × (n ≡ 0) × AddsLine old new before after [] read_line
+      each : (model : List ℕ) → Found told name unread read old new before after model ReadFault n ⊎ Lost told name unread read old new before after model ReadFault n → HasRisen (unread model) (read model) × HasNone n × AddsLine old new before after [] read_line
       each model (inl found) = absurd found.solves
       each model (inr lost) = let line = unread_line old new before after lost.why lost.refuses in (lost.failed line.0, lost.none, line.1)
 
-  pub long_text : status ≡ Refused (Limit Text TEXT_BYTES) → IsSomeAnd name (λ model. (n ≡ 0) × ((lines : ℕ) × IsLong told model lines × AddsLine old new before after [] (too_long_line lines)))
+  pub long_text : status ≡ Refused (Limit Text TEXT_BYTES) → IsSomeAnd name (λ model. HasNone n × ((lines : ℕ) × IsLong told model lines × AddsLine old new before after [] (too_long_line lines)))
   long_text e = map_model name each (told_of (Refused (Limit Text TEXT_BYTES)) (λ d. cc) e)
     where
       by : (model : List ℕ) (lost : Lost told name unread read old new before after model (Refused (Limit Text TEXT_BYTES)) n) → ((Limit Text TEXT_BYTES ≡ Limit Text TEXT_BYTES) × ((lines : ℕ) × (lost.why ≡ unloads.TooLong lines) × AddsLine old new before after [] (too_long_line lines)))
@@ -200,11 +202,11 @@ module _ (told : Option FileMap) (name : Option (List ℕ)) (unread read : List 
       by model lost (inl (is, (lines, why, line))) = (lines, (subst (Unloads told model) why lost.held).1, line)
       by model lost (inr other) = let is = other.0 in cc
 
-      each : (model : List ℕ) → Found told name unread read old new before after model (Refused (Limit Text TEXT_BYTES)) n ⊎ Lost told name unread read old new before after model (Refused (Limit Text TEXT_BYTES)) n → (n ≡ 0) × ((lines : ℕ) × IsLong told model lines × AddsLine old new before after [] (too_long_line lines))
+      each : (model : List ℕ) → Found told name unread read old new before after model (Refused (Limit Text TEXT_BYTES)) n ⊎ Lost told name unread read old new before after model (Refused (Limit Text TEXT_BYTES)) n → HasNone n × ((lines : ℕ) × IsLong told model lines × AddsLine old new before after [] (too_long_line lines))
       each model (inl found) = absurd found.solves
       each model (inr lost) = (lost.none, by model lost (refused_as old new before after lost.why (Limit Text TEXT_BYTES) lost.refuses))
 
-  pub other_text : status ≡ Refused (Unsupported 0) → IsSomeAnd name (λ model. (n ≡ 0) × IsOther told model × AddsLine old new before after [] unsupported_line)
+  pub other_text : status ≡ Refused (Unsupported 0) → IsSomeAnd name (λ model. HasNone n × IsOther told model × AddsLine old new before after [] unsupported_line)
   other_text e = map_model name each (told_of (Refused (Unsupported 0)) (λ d. cc) e)
     where
       by : (model : List ℕ) (lost : Lost told name unread read old new before after model (Refused (Unsupported 0)) n) → ((Unsupported 0 ≡ Limit Text TEXT_BYTES) × ((lines : ℕ) × (lost.why ≡ unloads.TooLong lines) × AddsLine old new before after [] (too_long_line lines)))
@@ -212,7 +214,7 @@ module _ (told : Option FileMap) (name : Option (List ℕ)) (unread read : List 
       by model lost (inl long) = let is = long.0 in cc
       by model lost (inr (is, why, line)) = (subst (Unloads told model) why lost.held, line)
 
-      each : (model : List ℕ) → Found told name unread read old new before after model (Refused (Unsupported 0)) n ⊎ Lost told name unread read old new before after model (Refused (Unsupported 0)) n → (n ≡ 0) × IsOther told model × AddsLine old new before after [] unsupported_line
+      each : (model : List ℕ) → Found told name unread read old new before after model (Refused (Unsupported 0)) n ⊎ Lost told name unread read old new before after model (Refused (Unsupported 0)) n → HasNone n × IsOther told model × AddsLine old new before after [] unsupported_line
       each model (inl found) = absurd found.solves
       each model (inr lost) = let told_line = by model lost (refused_as old new before after lost.why (Unsupported 0) lost.refuses) in (lost.none, told_line.0, told_line.1)
 
@@ -254,10 +256,10 @@ module _ (told : Option FileMap) (name : Option (List ℕ)) (unread read : List 
       from (inl misused) e = misused.is
       from (inr some) e = absurd (not_none (λ m. Found told name unread read old new before after m status n ⊎ Lost told name unread read old new before after m status n) name some e)
 
-  pub usage_line_said : status ≡ Usage (Unknown 0) → (n ≡ 0) × AddsLine old new before after [] usage_line
+  pub usage_line_said : status ≡ Usage (Unknown 0) → HasNone n × AddsLine old new before after [] usage_line
   usage_line_said e = by explained
     where
-      by : Explains told name unread read old new before after status n → (n ≡ 0) × AddsLine old new before after [] usage_line
+      by : Explains told name unread read old new before after status n → HasNone n × AddsLine old new before after [] usage_line
       by (inl misused) = (misused.none, misused.line)
       by (inr some) = absurd (not_none (λ m. Found told name unread read old new before after m status n ⊎ Lost told name unread read old new before after m status n) name some (usage.0 e))
 

@@ -1,8 +1,9 @@
-pub mod Turning
-pub mod Carrying
-pub mod Choices
 pub mod Solving
 pub mod Loading
 pub mod Lines
 pub mod Flushed
 pub mod Clauses
+pub mod Assigning
+pub mod Going
+pub mod Reading
+pub mod Turned

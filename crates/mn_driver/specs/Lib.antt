@@ -1,11 +1,12 @@
-pub mod Ahead
 pub mod Codes
+pub mod Counting
 pub mod Explains
 pub mod Loads
 pub mod Owes
+pub mod Owing
 pub mod Report
 pub mod Runs
-pub mod Standing
 pub mod Stops
+pub mod Turns
 pub mod Words
 pub mod Written

@@ -2,9 +2,10 @@
 use Rattle.std.specs.Prelude.{◌≡◌, ℕ, ◌⊎◌, List, [], Option}
 use Rattle.mn_model.specs.Problem.{Problem}
 use Rattle.mn_outside.specs.Content.{FileMap}
-use Rattle.mn_driver.specs.Report.{report}
+use Rattle.mn_driver.specs.Counting.{HasNone}
 use Rattle.mn_driver.specs.Runs.{IsTheModel}
-use Rattle.mn_driver.specs.Written.{CountsBlocks, IsFrontOf}
+use Rattle.mn_driver.specs.Written.{CountsBlocks, IsFrontOfReport}
+use Rattle.mn_driver.specs.declared.status.Counts.{Counts}
 use Rattle.mn_driver.specs.declared.status.Status.{Status}
 use Rattle.mn_driver.specs.declared.status.Status.TheVariants.{Complete, WriteFault, ReadFault, NoMemory}
 
@@ -17,7 +18,7 @@ abbrev pub IsModelStatus : Status → Type 0
 IsModelStatus status = (status ≡ Complete) ⊎ (status ≡ WriteFault) ⊎ (status ≡ ReadFault) ⊎ (status ≡ NoMemory)
 
 -- what was written before memory ran out: nothing, or a front of the report with so many blocks whole
-abbrev pub StoppedAt : Option FileMap → List ℕ → List ℕ → ℕ → Type 0
-StoppedAt told name done solutions =
-    ((done ≡ []) × (solutions ≡ 0))
-    ⊎ ((p : Problem) × IsTheModel told name p × IsFrontOf done (report p) × CountsBlocks p done solutions)
+abbrev pub StoppedAt : Option FileMap → List ℕ → List ℕ → Counts → Type 0
+StoppedAt told name done counts =
+    ((done ≡ []) × HasNone counts)
+    ⊎ ((p : Problem) × IsTheModel told name p × IsFrontOfReport p done × CountsBlocks p done counts.solutions)

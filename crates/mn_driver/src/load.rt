@@ -2,7 +2,6 @@ ghost use Rattle.std.specs.Prelude.{◌≡◌, IfErr, IfOk};
 ghost use Rattle.mn_outside.specs.Faults.{HasRisen, NoneFell};
 ghost use Rattle.mn_driver.specs.Loads.{Unloads, unfetched, unread};
 ghost use Rattle.mn_driver.specs.Runs.{IsTheModel};
-ghost use Rattle.mn_reader.specs.Reads.{IsPlain};
 
 use mn_model::{Instance, Refusal, TEXT_BYTES};
 use mn_outside::{FetchFault, Files, fetch_all};
@@ -22,7 +21,6 @@ pub enum Unloaded {
 /// The instance that the named file stands for.
 pub fn load<F: Files>(alloc: Global, files: &mut F, name: &str) -> Result<Instance, Unloaded>
     ensures model { IfOk result (λ p. IsTheModel (F.content files.old) name.now p) }
-    ensures plain { IfOk result IsPlain }
     ensures unloaded { IfErr result (Unloads (F.content files.old) name.now) }
     ensures failed { IfErr result (λ why. why ≡ Unloaded.Failed
         → HasRisen (F.reading files.old name.now) (F.reading files.new name.now)) }

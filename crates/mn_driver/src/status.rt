@@ -3,14 +3,31 @@ ghost use Rattle.mn_driver.specs.Codes.{code_of};
 
 use mn_model::Refusal;
 
-/// How a run ended, and what it did.
+/// How a run ended, and what it did. Counts stand still at their greatest value.
 #[derive(Clone, Copy, Debug, PartialEq, Eq)]
 pub struct Ended {
     pub status: Status,
-    /// The visits of the search. A plain enumeration makes none.
+    /// The visits of the search.
     pub nodes: u64,
     /// The solutions whose block was written whole.
     pub solutions: u64,
+}
+
+/// What a run did, whatever its end.
+#[derive(Clone, Copy, Debug, PartialEq, Eq)]
+pub struct Counts {
+    /// The solutions whose block was written whole.
+    pub solutions: u64,
+    /// The visits of the search.
+    pub nodes: u64,
+}
+
+impl Counts {
+    /// Nothing was done.
+    pub const NONE: Counts = Counts {
+        solutions: 0,
+        nodes: 0,
+    };
 }
 
 /// How a run ended.

@@ -10,6 +10,7 @@ struct Row {
     fail: u64,
     status: u8,
     solutions: u64,
+    nodes: u64,
     written: &'static [u8],
 }
 
@@ -26,8 +27,8 @@ const NEVER: &[u8] = b"MINION 3\n**VARIABLES**\nBOOL x\n**CONSTRAINTS**\ndiseq(x
 
 const NOTHING: &[u8] = b"MINION 3\n**VARIABLES**\n**CONSTRAINTS**\n**EOF**\n";
 
-/// The number of the status, the number of solutions, and whether the output is the expected one.
-fn outcome(alloc: Global, row: &Row) -> Result<(u8, u64, bool), AllocError> {
+/// The number of the status, the numbers of solutions and nodes, and whether the output is the expected one.
+fn outcome(alloc: Global, row: &Row) -> Result<(u8, u64, u64, bool), AllocError> {
     let mut files = MemFiles::new(alloc, Vec::new(alloc));
     files.put("m", row.text)?;
     let mut failing = Vec::new(alloc);
@@ -40,6 +41,7 @@ fn outcome(alloc: Global, row: &Row) -> Result<(u8, u64, bool), AllocError> {
     Ok((
         ended.status.code(),
         ended.solutions,
+        ended.nodes,
         out.written() == row.written,
     ))
 }
@@ -52,41 +54,47 @@ fn writes_reports(rt: HostRuntime) -> Result<(), Fail> {
             fail: 0,
             status: 0,
             solutions: 4,
-            written: b"Sol: 0 0\nSolution Number: 1\nSol: 0 1\nSolution Number: 2\nSol: 1 0\nSolution Number: 3\nSol: 1 1\nSolution Number: 4\nSolutions: 4\nOutcome: complete\n",
+            nodes: 7,
+            written: b"Sol: 0 0\nSolution Number: 1\nSol: 0 1\nSolution Number: 2\nSol: 1 0\nSolution Number: 3\nSol: 1 1\nSolution Number: 4\nSolutions: 4\nNodes: 7\nOutcome: complete\n",
         },
         Row {
             text: DIFFERENT,
             fail: 0,
             status: 0,
             solutions: 2,
-            written: b"Sol: 0 1\nSolution Number: 1\nSol: 1 0\nSolution Number: 2\nSolutions: 2\nOutcome: complete\n",
+            nodes: 3,
+            written: b"Sol: 0 1\nSolution Number: 1\nSol: 1 0\nSolution Number: 2\nSolutions: 2\nNodes: 3\nOutcome: complete\n",
         },
         Row {
             text: SAME,
             fail: 0,
             status: 0,
             solutions: 2,
-            written: b"Sol: 0 0\nSolution Number: 1\nSol: 1 1\nSolution Number: 2\nSolutions: 2\nOutcome: complete\n",
+            nodes: 3,
+            written: b"Sol: 0 0\nSolution Number: 1\nSol: 1 1\nSolution Number: 2\nSolutions: 2\nNodes: 3\nOutcome: complete\n",
         },
         Row {
             text: NEVER,
             fail: 0,
             status: 0,
             solutions: 0,
-            written: b"Solutions: 0\nOutcome: complete\n",
+            nodes: 3,
+            written: b"Solutions: 0\nNodes: 3\nOutcome: complete\n",
         },
         Row {
             text: NOTHING,
             fail: 0,
             status: 0,
             solutions: 1,
-            written: b"Sol:\nSolution Number: 1\nSolutions: 1\nOutcome: complete\n",
+            nodes: 1,
+            written: b"Sol:\nSolution Number: 1\nSolutions: 1\nNodes: 1\nOutcome: complete\n",
         },
         Row {
             text: CUT,
             fail: 0,
             status: 1,
             solutions: 0,
+            nodes: 0,
             written: b"Refused: unsupported, byte 0, line 1\n",
         },
         Row {
@@ -94,6 +102,7 @@ fn writes_reports(rt: HostRuntime) -> Result<(), Fail> {
             fail: 2,
             status: 4,
             solutions: 1,
+            nodes: 4,
             written: b"Sol: 0 0\nSolution Number: 1\n",
         },
         Row {
@@ -101,6 +110,7 @@ fn writes_reports(rt: HostRuntime) -> Result<(), Fail> {
             fail: 5,
             status: 4,
             solutions: 4,
+            nodes: 7,
             written: b"Sol: 0 0\nSolution Number: 1\nSol: 0 1\nSolution Number: 2\nSol: 1 0\nSolution Number: 3\nSol: 1 1\nSolution Number: 4\n",
         },
         Row {
@@ -108,20 +118,23 @@ fn writes_reports(rt: HostRuntime) -> Result<(), Fail> {
             fail: 2,
             status: 4,
             solutions: 0,
-            written: b"Solutions: 0\nOutcome: complete\n",
+            nodes: 3,
+            written: b"Solutions: 0\nNodes: 3\nOutcome: complete\n",
         },
         Row {
             text: CUT,
             fail: 1,
             status: 1,
             solutions: 0,
+            nodes: 0,
             written: b"",
         },
     ];
     for (at, row) in rows.iter().enumerate() {
-        let (status, solutions, written) = outcome(rt.alloc(), row)?;
+        let (status, solutions, nodes, written) = outcome(rt.alloc(), row)?;
         assert_eq!(rt; status, row.status, "status of row {at}");
         assert_eq!(rt; solutions, row.solutions, "solutions of row {at}");
+        assert_eq!(rt; nodes, row.nodes, "nodes of row {at}");
         assert!(rt; written, "output of row {at}");
     }
     Ok(())

@@ -1,6 +1,8 @@
-use Rattle.std.proofs.Common.{map, string_bytes, sym, subst, ℕ}
+use Rattle.std.proofs.Common.{map, string_bytes, sym, subst}
 use Rattle.mn_driver.specs.Codes.{unflushed}
+use Rattle.mn_driver.specs.Counting.{counts_of}
 use Rattle.mn_driver.specs.Explains.{Explains}
+use Rattle.mn_driver.specs.declared.status.Counts.{Counts}
 use Rattle.mn_driver.specs.Words.{asked}
 use Rattle.mn_driver.specs.declared.status.Status.{Status}
 use Rattle.mn_driver.proofs.Flushed.{explained_later, explained_failed}
@@ -10,14 +12,14 @@ pub returns-in-Ok-clause-explained : goal.returns-in-Ok-clause-explained
 returns-in-Ok-clause-explained g c =
     explained_later (g.F.Files.content c.args.files.now) (asked (map string_bytes c.args.words.now.items)) (g.F.Files.reading c.args.files.now) (g.F.Files.reading c.answer-ended.new.files)
     (g.O.Sink.content c.args.out.now) (g.O.Sink.content c.answer-ended.new.out) (g.O.Sink.content c.flush.new.self) (g.O.Sink.faults c.args.out.now) (g.O.Sink.faults c.answer-ended.new.out) (g.O.Sink.faults c.flush.new.self)
-    c.answer-ended.ensures.kept c.flush.ensures.kept c.flush.ensures.same_content c.answer-ended.result.status c.answer-ended.result.solutions c.answer-ended.ensures.explained
+    c.answer-ended.ensures.kept c.flush.ensures.kept c.flush.ensures.same_content c.answer-ended.result.status (counts_of c.answer-ended.result) c.answer-ended.ensures.explained
 
 pub returns-in-Err-clause-explained : goal.returns-in-Err-clause-explained
 returns-in-Err-clause-explained g c =
     let explained = explained_failed (g.F.Files.content c.args.files.now) (asked (map string_bytes c.args.words.now.items)) (g.F.Files.reading c.args.files.now) (g.F.Files.reading c.answer-ended.new.files)
     (g.O.Sink.content c.args.out.now) (g.O.Sink.content c.answer-ended.new.out) (g.O.Sink.content c.flush.new.self) (g.O.Sink.faults c.args.out.now) (g.O.Sink.faults c.answer-ended.new.out) (g.O.Sink.faults c.flush.new.self)
-    c.answer-ended.ensures.kept c.flush.ensures.kept c.flush.ensures.same_content c.in-Err.ensures.failed c.answer-ended.result.status c.answer-ended.result.solutions c.answer-ended.ensures.explained in
+    c.answer-ended.ensures.kept c.flush.ensures.kept c.flush.ensures.same_content c.in-Err.ensures.failed c.answer-ended.result.status (counts_of c.answer-ended.result) c.answer-ended.ensures.explained in
     subst (λ (status : Status). Explains (g.F.Files.content c.args.files.now) (asked (map string_bytes c.args.words.now.items)) (g.F.Files.reading c.args.files.now) (g.F.Files.reading c.answer-ended.new.files)
-    (g.O.Sink.content c.args.out.now) (g.O.Sink.content c.flush.new.self) (g.O.Sink.faults c.args.out.now) (g.O.Sink.faults c.flush.new.self) status c.unflushed.result.solutions) (sym c.unflushed.ensures.status)
-    (subst (λ (n : ℕ). Explains (g.F.Files.content c.args.files.now) (asked (map string_bytes c.args.words.now.items)) (g.F.Files.reading c.args.files.now) (g.F.Files.reading c.answer-ended.new.files)
-    (g.O.Sink.content c.args.out.now) (g.O.Sink.content c.flush.new.self) (g.O.Sink.faults c.args.out.now) (g.O.Sink.faults c.flush.new.self) (unflushed c.answer-ended.result.status) n) (sym c.unflushed.ensures.solutions) explained)
+    (g.O.Sink.content c.args.out.now) (g.O.Sink.content c.flush.new.self) (g.O.Sink.faults c.args.out.now) (g.O.Sink.faults c.flush.new.self) status (counts_of c.unflushed.result)) (sym c.unflushed.ensures.status)
+    (subst (λ (n : Counts). Explains (g.F.Files.content c.args.files.now) (asked (map string_bytes c.args.words.now.items)) (g.F.Files.reading c.args.files.now) (g.F.Files.reading c.answer-ended.new.files)
+    (g.O.Sink.content c.args.out.now) (g.O.Sink.content c.flush.new.self) (g.O.Sink.faults c.args.out.now) (g.O.Sink.faults c.flush.new.self) (unflushed c.answer-ended.result.status) n) (sym c.unflushed.ensures.counts) explained)

@@ -1,8 +1,0 @@
-use Rattle.std.proofs.Common.{◌≡◌, ◌++◌, take}
-use Rattle.std.specs.List.{flat_map}
-use Rattle.mn_driver.specs.Report.{value_text}
-use Rattle.mn_driver.proofs.report.values.Given as goal
-
--- the values so far are behind what the buffer held
-abbrev pub invariant-loop-a : goal.invariant-loop-a
-invariant-loop-a l = l.buffer.items ≡ l.fn.buffer.items ++ flat_map value_text (take l.a-index l.s)
