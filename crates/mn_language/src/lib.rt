@@ -1,0 +1,22 @@
+//! The language of whole texts: its constraints, its sections, and the instance that each text stands for.
+//!
+//! The forms of constraints are a table of words and kinds of arguments, `FORMS` and `arguments_of`. The definitions of
+//! `specs/` say from that table and from the sections that declare which texts there are, what each stands for, and where
+//! and why every other one is refused. Laws say that no text stands for two instances, and that each text has a verdict,
+//! and one only.
+//!
+//! The crate stands on `mn_decls`, whose definitions it puts together, on the theory of readers in `mn_grammar`, on
+//! `mn_lexer` and on `mn_model`.
+#![tactic(auto)]
+
+mod constraint_section;
+mod forms;
+mod text_laws;
+mod values;
+mod words;
+
+pub use constraint_section::constraints_law;
+pub use forms::{Argument, FORMS, Form, Gather, Leaf, Numbers, Places, Tie};
+pub use text_laws::{one_instance, one_verdict};
+pub use values::{Value, meaning};
+pub use words::{arguments_of, form_of, form_text};
