@@ -28,17 +28,19 @@ use Rattle.mn_grammar.specs.declared.site.Site.TheVariants.{Free, Fixed, MarksOn
 use Rattle.mn_grammar.specs.declared.Kind.{Kind}
 use Rattle.mn_grammar.specs.declared.Kind.TheVariants.{Again, Limit, Shape}
 use Rattle.mn_grammar.specs.declared.Limit.TheVariants.{Vector as OfVector}
-use Rattle.mn_decls.specs.Conditions.{as_kind}
-use Rattle.mn_decls.specs.Heads.{head_token, all_heads, head_of}
-use Rattle.mn_decls.specs.References.{Ref, spell_ref, one_place}
-use Rattle.mn_decls.specs.Entries.{Row, plain, bracketed, spell_row}
-use Rattle.mn_decls.specs.Search.{Asked, Asking, ItemWord, says_order, says_values, maximises, minimises, prints, item_token, may_stand, at_word, order_aim, order_judge, all_vars, way_token, at_way, spell_way, values_judge, all_ways, no_ways, rows_judge, all_rows, Printing, print_all, print_none, print_rows, Item, var_order, val_order, objective, print, spell_printing, spell_item, breaks_printing, breaks_item, with_order, with_values, with_goal, value_printing, with_print, value_item, spell_section, breaks_section, value_section, Section}
-use Rattle.mn_decls.specs.Referring.{ref_at, row_at}
-use Rattle.mn_decls.specs.Searching.{order_at, static_token, both, no_break, behind_static, var_order_at, way_at, val_order_at, PrintStart, all, none, listed, print_token, print_starts, rows_at, behind_print, print_at, item_rest, item_words, which_item, at_item, item_first, ended, search_at}
-use Rattle.mn_decls.proofs.Referable.{as_kind_kinds, lesser_kinds, blocks_subs, some_name, ref_spec, ref_law}
-use Rattle.mn_decls.proofs.Listable.{subs_marks, subs_no_comma, subs_no_shut, entry_marks, entry_no_comma, entry_no_shut, entry_solid, entry_not_shut, blocks_row, row_law}
-use Rattle.mn_decls.specs.declared.heads.Head.{Head}
-use Rattle.mn_decls.specs.declared.heads.Head.TheVariants.{Variables, TupleList, Search, Constraints, End}
+use Rattle.mn_references.specs.Conditions.{as_kind}
+use Rattle.mn_cursor.specs.Heads.{head_token, all_heads, head_of}
+use Rattle.mn_references.specs.References.{Ref, spell_ref, one_place}
+use Rattle.mn_references.specs.Entries.{Row, plain, bracketed, spell_row}
+use Rattle.mn_decls.specs.Search.{Asking, ItemWord, says_order, says_values, maximises, minimises, prints, item_token, may_stand, at_word, order_aim, order_judge, all_vars, way_token, at_way, spell_way, values_judge, all_ways, no_ways, rows_judge, all_rows, Printing, print_all, print_none, print_rows, Item, var_order, val_order, objective, print, spell_printing, spell_item, breaks_printing, breaks_item, with_order, with_values, with_goal, value_printing, with_print, value_item, spell_section, breaks_section, value_section}
+pub use Rattle.mn_decls.specs.Search.{section_spec}
+use Rattle.mn_references.specs.Referring.{ref_at, row_at}
+use Rattle.mn_decls.specs.Searching.{order_at, static_token, both, no_break, behind_static, var_order_at, way_at, ways_at, val_order_at, PrintStart, all, none, listed, print_token, print_starts, rows_at, behind_print, print_at, item_rest, item_words, which_item, at_item, item_first, ended, search_at}
+use Rattle.mn_references.proofs.Referable.{as_kind_kinds, lesser_kinds, blocks_subs, some_name, ref_spec, ref_law}
+use Rattle.mn_references.proofs.Listable.{subs_marks, subs_no_comma, subs_no_shut, entry_marks, entry_no_comma, entry_no_shut, entry_solid, entry_not_shut, blocks_row, row_law}
+use Rattle.mn_cursor.specs.declared.asked.Asked.{Asked}
+use Rattle.mn_cursor.specs.declared.heads.Head.{Head}
+use Rattle.mn_cursor.specs.declared.heads.Head.TheVariants.{Variables, TupleList, Search, Constraints, End}
 
 -- 1. VARORDER
 abbrev pub some_ref : Ref
@@ -53,7 +55,7 @@ order_spec p = maybe_spec CloseSquare (order_judge p) blocks_ref Free some_ref N
 ref_not_shut : (r : Ref) (t : Terminal) (q : List Terminal) → spell_ref r ≡ t ∷ q → is_the_mark CloseSquare t ≡ false
 ref_not_shut r t q e = let same : word r.name.bytes ≡ t = cc in ap (is_the_mark CloseSquare) (sym same)
 
-order_law : (p : Problem) → Lawful (order_spec p) (order_at p)
+pub order_law : (p : Problem) → Lawful (order_spec p) (order_at p)
 unfolding order_at
 order_law p =
     Lawful-maybe CloseSquare (order_judge p) blocks_ref Free some_ref None [] all_vars
@@ -104,16 +106,16 @@ way_not_shut : (d : Bool) (t : Terminal) (q : List Terminal) → spell_way d ≡
 way_not_shut true t q e = let same : word (codes "d") ≡ t = cc in ap (is_the_mark CloseSquare) (sym same)
 way_not_shut false t q e = let same : word (codes "a") ≡ t = cc in ap (is_the_mark CloseSquare) (sym same)
 
-abbrev ways_spec : ℕ → Spec (Option (Items Bool)) (List Bool)
+abbrev pub ways_spec : ℕ → Spec (Option (Items Bool)) (List Bool)
 ways_spec wanted = maybe_spec CloseSquare (values_judge wanted) (λ d t. false) Fixed true (no_ways wanted) [] all_ways []
 
 abbrev val_order_spec : ℕ → Spec (Option (Items Bool)) (List Bool)
 val_order_spec wanted = mark_then OpenSquare None (ways_spec wanted)
 
-val_order_law : (wanted : ℕ) → Lawful (val_order_spec wanted) (val_order_at wanted)
-unfolding val_order_at
-val_order_law wanted =
-    let law = Lawful-maybe CloseSquare (values_judge wanted) (λ d t. false) Fixed true (no_ways wanted) [] all_ways
+pub ways_law : (wanted : ℕ) → Lawful (ways_spec wanted) (ways_at wanted)
+unfolding ways_at
+ways_law wanted =
+    Lawful-maybe CloseSquare (values_judge wanted) (λ d t. false) Fixed true (no_ways wanted) [] all_ways
     (record {
       other = refl;
       solid = λ d e. cc;
@@ -123,8 +125,11 @@ val_order_law wanted =
       comma_kinds = λ down d kind e. kind_when (leb wanted (length down + 1)) Shape refl kind e;
       close_kinds = λ down d kind e. kind_when (ltb (length down + 1) wanted) Shape refl kind e;
     })
-    way_not_shut (λ kind e. kind_when (ltb 0 wanted) Shape refl kind e) [] (way_at wanted) (way_law wanted) in
-    Lawful-mark_then OpenSquare None (λ kind e. cc) (ways_spec wanted) _ law.sound (λ kept. law)
+    way_not_shut (λ kind e. kind_when (ltb 0 wanted) Shape refl kind e) [] (way_at wanted) (way_law wanted)
+
+val_order_law : (wanted : ℕ) → Lawful (val_order_spec wanted) (val_order_at wanted)
+unfolding val_order_at
+val_order_law wanted = Lawful-mark_then OpenSquare None (λ kind e. cc) (ways_spec wanted) (ways_at wanted) (ways_law wanted).sound (λ kept. ways_law wanted)
 
 -- 3. PRINT
 row_solid : (r : Row) → spell_row r ≡ [] → ⊥
@@ -186,7 +191,7 @@ print_rest_law p all = Lawful-ret MarksOnly printed.All
 print_rest_law p none = Lawful-ret MarksOnly printed.Nothing
 print_rest_law p listed = Lawful-valued (λ rows. printed.Rows rows) (rows_spec p) (rows_at p) (rows_law p)
 
-abbrev print_spec : Problem → Spec Printing Print
+abbrev pub print_spec : Problem → Spec Printing Print
 print_spec p = record { spell = spell_printing; breaks = breaks_printing p; value = value_printing p; blocks = λ x t. false; start = Fixed; any = print_all }
 
 abbrev print_onto : (s : PrintStart) → PrintRest s → Printing
@@ -228,7 +233,7 @@ module _ (p : Problem) where
   print_goes_on none y t = refl
   print_goes_on listed y t = refl
 
-print_law : (p : Problem) → Lawful (print_spec p) (print_at p)
+pub print_law : (p : Problem) → Lawful (print_spec p) (print_at p)
 unfolding print_at
 print_law p =
     Lawful-view (pair_print p) (print_spec p)
@@ -248,21 +253,21 @@ print_law p =
     (print_rest_law p))
 
 -- 4. Items
-abbrev ItemRest : ItemWord → Type 0
+abbrev pub ItemRest : ItemWord → Type 0
 ItemRest says_order = Bool × Option (Items Ref)
 ItemRest says_values = Option (Items Bool)
 ItemRest maximises = Ref
 ItemRest minimises = Ref
 ItemRest prints = Printing
 
-abbrev item_spec : Asking → (w : ItemWord) → Spec (ItemRest w) Asking
+abbrev pub item_spec : Asking → (w : ItemWord) → Spec (ItemRest w) Asking
 item_spec s says_order = valued (with_order s) (var_order_spec s.problem)
 item_spec s says_values = valued (with_values s) (val_order_spec (length s.problem.order.vars))
 item_spec s maximises = valued (with_goal s true) (ref_spec s.problem (one_place s.problem false))
 item_spec s minimises = valued (with_goal s false) (ref_spec s.problem (one_place s.problem false))
 item_spec s prints = valued (with_print s) (print_spec s.problem)
 
-item_law : (s : Asking) (w : ItemWord) → Lawful (item_spec s w) (item_rest s w)
+pub item_law : (s : Asking) (w : ItemWord) → Lawful (item_spec s w) (item_rest s w)
 unfolding item_rest
 item_law s says_order = Lawful-valued (with_order s) (var_order_spec s.problem) (var_order_at s.problem) (var_order_law s.problem)
 item_law s says_values = Lawful-valued (with_values s) (val_order_spec (length s.problem.order.vars)) (val_order_at (length s.problem.order.vars)) (val_order_law (length s.problem.order.vars))
@@ -455,16 +460,6 @@ section_means s (more y gs) =
 
 section_goes_on : (s : Asking) (gs : Body s) (t : Terminal) → false ≡ (items_spec s).blocks gs t
 section_goes_on s gs t = sym (body_blocks Fixed first_token (λ w. w) at_item End item_spec ended s gs t)
-
-abbrev pub section_spec : Asking → Spec Section (Asking × Head)
-section_spec s = record {
-  spell = λ x. spell_section x.items x.next;
-  breaks = λ x. breaks_section s x.items;
-  value = λ x. (value_section s x.items, x.next);
-  blocks = λ x t. false;
-  start = Fixed;
-  any = record { items = []; next = End };
-}
 
 pub section_law : (s : Asking) → Lawful (section_spec s) (search_at s)
 section_law s =

@@ -21,10 +21,10 @@ use Rattle.mn_grammar.proofs.Views.{Lawful-view}
 use Rattle.mn_grammar.proofs.Loops.{Turns, last, more, turns, Loop, Lawful-loop, loop_turn}
 use Rattle.mn_grammar.proofs.Sections.{firsts, body_spec, body_blocks, Lawful-body}
 use Rattle.mn_model.specs.Problem.{Problem, listed_as}
-use Rattle.mn_decls.specs.Looks.{first_as}
-use Rattle.mn_decls.specs.Heads.{head_token, all_heads, head_of}
-use Rattle.mn_decls.specs.declared.heads.Head.{Head}
-use Rattle.mn_decls.specs.declared.heads.Head.TheVariants as heads
+use Rattle.mn_cursor.specs.Looks.{first_as}
+use Rattle.mn_cursor.specs.Heads.{head_token, all_heads, head_of}
+use Rattle.mn_cursor.specs.declared.heads.Head.{Head}
+use Rattle.mn_cursor.specs.declared.heads.Head.TheVariants as heads
 use Rattle.mn_decls.specs.TupleLists.{TupleList, spell_list, spell_lists, Listing, listed, after_list, is_past_cells, fair_count, fair_size, fair_number, breaks_numbers, breaks_list, breaks_lists, value_lists, lists_spec, number_turn, numbers_at, list_at, judge_first, first_at, listed_before, lists_at}
 
 -- 1. Kinds of conditions

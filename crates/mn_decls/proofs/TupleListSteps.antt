@@ -18,14 +18,14 @@ use Rattle.mn_model.specs.Lawful.{IsLawfulTuples}
 use Rattle.mn_model.specs.Name.{IsName}
 use Rattle.mn_model.specs.Problem.{Problem, called, listed_as, cells_of}
 use Rattle.mn_model.specs.declared.limits.TheConstants.{CELLS}
-use Rattle.mn_decls.specs.Added.{with_tuples}
-use Rattle.mn_decls.specs.Heads.{head_of}
-use Rattle.mn_decls.specs.Looks.{first_as, first_value}
-use Rattle.mn_decls.specs.declared.looks.First.{First}
-use Rattle.mn_decls.specs.declared.heads.Head.{Head}
+use Rattle.mn_cursor.specs.Added.{with_tuples}
+use Rattle.mn_cursor.specs.Heads.{head_of}
+use Rattle.mn_cursor.specs.Looks.{first_as, first_value}
+use Rattle.mn_cursor.specs.declared.looks.First.{First}
+use Rattle.mn_cursor.specs.declared.heads.Head.{Head}
 use Rattle.mn_decls.specs.TupleLists.{Listing, whole, listed, new_list, judge_first, is_past_cells, fair_count, fair_size, fair_number, numbers_at, list_at, first_at, listed_before, lists_at, tuplelist_at}
-use Rattle.mn_decls.proofs.Looking.{unseen_stops, seen_stops, seen_reads, one_seen}
-use Rattle.mn_decls.proofs.Turning.{stops_first, stops_second, one_leaves, read_leaves, first_stops, item_stops, item_goes_on, body_ends}
+use Rattle.mn_cursor.proofs.Looking.{unseen_stops, seen_stops, seen_reads, one_seen}
+use Rattle.mn_cursor.proofs.Turning.{stops_first, stops_second, one_leaves, read_leaves, first_stops, item_stops, item_goes_on, body_ends}
 use Rattle.mn_decls.proofs.TupleListLaw.{numbers_go_on, numbers_surplus, list_item, list_law}
 
 -- 1. Numbers

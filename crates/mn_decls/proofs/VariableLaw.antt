@@ -1,12 +1,12 @@
 -- The reader of the section of variables is lawful.
-use Rattle.std.proofs.Common.{◌≡◌, ◌⊎◌, ℕ, ℤ, pos, Bool, true, false, ◌||◌, ◌&&◌, List, [], ◌∷◌, ◌++◌, length, codes, Option, Some, None, is_some, refl, sym, ap, subst, inl, inr, append-nil, int_lt, leb}
+use Rattle.std.proofs.Common.{◌≡◌, ◌∙◌, ◌⊎◌, ℕ, ℤ, pos, Bool, true, false, ◌||◌, ◌&&◌, List, [], ◌∷◌, ◌++◌, length, codes, Option, Some, None, is_some, refl, sym, ap, subst, inl, inr, append-nil, int_lt, leb}
 use Rattle.mn_lexer.specs.Terminals.{Terminal, number, mark}
 use Rattle.mn_lexer.specs.declared.marks.Mark.{Mark}
 use Rattle.mn_lexer.specs.declared.marks.Mark.TheVariants.{OpenSquare, CloseSquare, OpenCurly, CloseCurly, Dots}
 use Rattle.mn_grammar.specs.Tokens.{Name, is_mark, is_the_mark}
 use Rattle.mn_grammar.specs.Kinds.{is_condition}
-use Rattle.mn_grammar.specs.Places.{on, behind}
-use Rattle.mn_grammar.specs.Reading.{which_either, name_at, number_at, mark_at, then_read, ret, or_else}
+use Rattle.mn_grammar.specs.Places.{Break, on, behind}
+use Rattle.mn_grammar.specs.Reading.{which_of, name_at, number_at, mark_at, then_read, ret, or_else}
 use Rattle.mn_grammar.specs.Lists.{Items, final, spell_items, maybe_at}
 use Rattle.mn_grammar.specs.Lawful.{Spec, OnlyMarks, Fits, first, Lawful}
 use Rattle.mn_grammar.specs.declared.site.Site.{Site}
@@ -14,8 +14,8 @@ use Rattle.mn_grammar.specs.declared.site.Site.TheVariants.{Fixed, Free, MarksOn
 use Rattle.mn_grammar.specs.declared.Kind.{Kind}
 use Rattle.mn_grammar.specs.declared.Kind.TheVariants as kinds
 use Rattle.mn_grammar.specs.declared.Limit.TheVariants as limits
-use Rattle.mn_grammar.proofs.Breaks.{alike_append, alike_behind, behind_behind, kind_when}
-use Rattle.mn_grammar.proofs.Sites.{is_nil, Fits-nothing}
+use Rattle.mn_grammar.proofs.Breaks.{behind_behind, kind_when}
+use Rattle.mn_grammar.proofs.Sites.{is_nil, Fits-marks, Fits-nothing}
 use Rattle.mn_grammar.proofs.Marks.{is_no_other, the_mark}
 use Rattle.mn_grammar.proofs.Leaves.{nothing, Lawful-one, Lawful-ret}
 use Rattle.mn_grammar.proofs.Words.{name_token, a_name_leaf, a_number_leaf, Lawful-name, Lawful-number}
@@ -31,11 +31,14 @@ use Rattle.mn_model.specs.Problem.{Problem, declared_as, aliased_as, variable_co
 use Rattle.mn_model.specs.declared.limits.TheConstants.{VARIABLES}
 use Rattle.mn_model.specs.declared.variable.Kind as variable
 use Rattle.mn_model.specs.declared.variable.Kind.TheVariants.{Binary, Bounded, Sparse, Discrete}
-use Rattle.mn_decls.specs.Added.{with_declaration}
-use Rattle.mn_decls.specs.Heads.{head_token, all_heads, head_of}
-use Rattle.mn_decls.specs.declared.heads.Head.{Head}
-use Rattle.mn_decls.specs.declared.heads.Head.TheVariants as heads
-use Rattle.mn_decls.specs.Variables.{kind_token, all_kinds, kind_of, Part, one_value, range, Written, Declaration, spell_number, spell_dims, spell_part, spell_domain, spell_declaration, spell_declarations, new_name, fair_dim, fair_end, fair_first, fair_last, is_past_span, with_range, with_dim, dims_judge, ends_of_part, breaks_part, with_part, parts_ends, parts_judge, breaks_dims, dims_of, breaks_domain, domain_of, breaks_declaration, declared, breaks_declarations, value_declarations, dim_at, dims_list_at, dims_at, any_number, stretch_at, range_at, part_at, parts_at, domain_at, declaration_at, judge_word, word_at, declared_before, variables_at, variables_spec}
+use Rattle.mn_cursor.specs.Added.{with_declaration}
+use Rattle.mn_cursor.specs.Heads.{head_token, all_heads, head_of}
+use Rattle.mn_cursor.specs.declared.heads.Head.{Head}
+use Rattle.mn_cursor.specs.declared.heads.Head.TheVariants as heads
+use Rattle.mn_decls.specs.Variables.{Part, one_value, range, Written, Target, Entry, declares, names, spell_number, spell_dims, spell_part, spell_domain, spell_entry, spell_declarations, room_for_one, new_name, fair_dim, fair_end, fair_first, fair_last, is_past_span, with_range, with_dim, dims_judge, ends_of_part, breaks_part, with_part, parts_ends, parts_judge, breaks_dims, dims_of, breaks_domain, domain_of, Declaring, so_far, breaks_entry, value_entry, breaks_entries, value_entries, dim_at, dims_list_at, dims_at, any_number, stretch_at, range_at, part_at, parts_at, domain_at, declaration_at, EntryWord, kind_word, alias_word, entry_token, entry_words, which_word, judge_word, word_at, entry_at, declared_before, entries_at, variables_at, variables_spec}
+use Rattle.mn_references.specs.Conditions.{as_kind}
+use Rattle.mn_references.proofs.Referable.{as_kind_kinds, lesser_kinds}
+use Rattle.mn_decls.proofs.AliasLaw.{alias_spec, alias_law, target_marks}
 use Rattle.mn_decls.proofs.TupleListLaw.{kind_if, heads_known}
 
 -- 1. Kinds of conditions
@@ -54,9 +57,13 @@ last_kinds values a z k e = kind_if (int_lt z a) kinds.EmptyDomain _ refl (kind_
 name_kinds : (p : Problem) (w : List ℕ) (k : Kind) → new_name p w ≡ Some k → is_condition k ≡ true
 name_kinds p w k e = kind_when (is_some (declared_as p.decls w) || is_some (aliased_as p.aliases w)) kinds.Name refl k e
 
-word_kinds : (p : Problem) (w : variable.Kind ⊎ Head) (k : Kind) → judge_word p w ≡ Some k → is_condition k ≡ true
-word_kinds p (inl v) k e = kind_when (leb VARIABLES (variable_count p.decls)) (kinds.Limit limits.Variables) refl k e
-word_kinds p (inr h) k e = cc
+room_kinds : (p : Problem) (k : Kind) → room_for_one p ≡ Some k → is_condition k ≡ true
+room_kinds p k e = kind_when (leb VARIABLES (variable_count p.decls)) (kinds.Limit limits.Variables) refl k e
+
+word_kinds : (s : Declaring) (w : EntryWord ⊎ Head) (k : Kind) → judge_word s w ≡ Some k → is_condition k ≡ true
+word_kinds s (inl (kind_word v)) k e = lesser_kinds (as_kind s.behind) (room_for_one s.problem) (as_kind_kinds s.behind) (room_kinds s.problem) k e
+word_kinds s (inl alias_word) k e = as_kind_kinds s.behind k e
+word_kinds s (inr h) k e = as_kind_kinds s.behind k e
 
 -- 2. Dimensions
 abbrev pub nothing_goes_on : ℤ → Terminal → Bool
@@ -381,117 +388,166 @@ item_law p k =
     (λ name. then_read (dims_at p) (λ dims. then_read (domain_at k) (λ values. ret (with_declaration p name dims k values))))
     (Lawful-name (new_name p) (name_kinds p)) (λ n. behind_name_law p n.bytes k)
 
--- 7. A kind's word or a head
-abbrev tokens : variable.Kind ⊎ Head → Terminal
-tokens = either_token kind_token head_token
+-- 7. An entry's word or a head
+abbrev first_token : EntryWord ⊎ Head → Terminal
+first_token = either_token entry_token head_token
 
-kinds_known : (k : variable.Kind) → kind_of (kind_token k) ≡ Some k
-kinds_known Binary = refl
-kinds_known Bounded = refl
-kinds_known Sparse = refl
-kinds_known Discrete = refl
+words_known : (w : EntryWord) → which_of entry_token entry_words (entry_token w) ≡ Some w
+words_known (kind_word Binary) = refl
+words_known (kind_word Bounded) = refl
+words_known (kind_word Sparse) = refl
+words_known (kind_word Discrete) = refl
+words_known alias_word = refl
 
-no_kind : (h : Head) → kind_of (head_token h) ≡ None
-no_kind heads.Variables = refl
-no_kind heads.TupleList = refl
-no_kind heads.Search = refl
-no_kind heads.Constraints = refl
-no_kind heads.End = refl
+no_word : (h : Head) → which_of entry_token entry_words (head_token h) ≡ None
+no_word heads.Variables = refl
+no_word heads.TupleList = refl
+no_word heads.Search = refl
+no_word heads.Constraints = refl
+no_word heads.End = refl
 
-word_law : (p : Problem) → Lawful (firsts Fixed tokens (λ k. k) judge_word heads.End item declared_before p) (word_at p)
-unfolding word_at
-word_law p = Lawful-one Fixed tokens (either_value (λ k. k) (λ h. h)) (which_either kind_of head_of) (judge_word p) (inr heads.End) (record {
-  class = either_class kind_token (λ k. k) kind_of head_token (λ h. h) head_of (set_class kind_token all_kinds kinds_known) (set_class head_token all_heads heads_known) no_kind;
-  is_site = ((refl, refl), (head_token heads.End, refl, refl));
-  kinds = word_kinds p;
-})
-
--- 8. The section
 abbrev Rest : variable.Kind → Type 0
 Rest k = (n : Name) × ((o : Option (Items ℤ)) × Written k)
 
-abbrev after : Problem → (k : variable.Kind) × Rest k → Problem
-after p x = (item p x.0).value x.1
+abbrev EntryRest : EntryWord → Type 0
+EntryRest (kind_word k) = Rest k
+EntryRest alias_word = (n : Name) × Target
 
-abbrev Trees : Problem → Type 0
-Trees p = Turns (λ (z : Problem). (k : variable.Kind) × Rest k) (λ z. Head) after p
+abbrev pub rest_spec : Declaring → (w : EntryWord) → Spec (EntryRest w) Declaring
+rest_spec s (kind_word k) = valued so_far (item s.problem k)
+rest_spec s alias_word = alias_spec s.problem
 
-abbrev body : (p : Problem) → Spec (Trees p) (Problem × Head)
-body p = body_spec Fixed tokens (λ k. k) judge_word heads.End item declared_before p
+pub rest_law : (s : Declaring) (w : EntryWord) → Lawful (rest_spec s w) (entry_at s w)
+unfolding entry_at
+rest_law s (kind_word k) = Lawful-valued so_far (item s.problem k) (declaration_at s.problem k) (item_law s.problem k)
+rest_law s alias_word = alias_law s.problem (name_kinds s.problem)
 
-blocks_marks : (o : Option (Items ℤ)) (d : List Terminal) (t : Terminal) → is_mark t ≡ false → ((blocks_dims o t && is_nil d) || false) ≡ false
-blocks_marks None d t e = ap (λ b. (b && is_nil d) || false) (is_no_other OpenSquare t e)
-blocks_marks (Some l) d t e = refl
+word_law : (s : Declaring) → Lawful (firsts Fixed first_token (λ w. w) judge_word heads.End rest_spec declared_before s) (word_at s)
+unfolding word_at
+word_law s = Lawful-one Fixed first_token (either_value (λ w. w) (λ h. h)) which_word (judge_word s) (inr heads.End) (record {
+  class = either_class entry_token (λ w. w) (which_of entry_token entry_words) head_token (λ h. h) head_of (set_class entry_token entry_words words_known) (set_class head_token all_heads heads_known) no_word;
+  is_site = ((refl, refl), (head_token heads.End, refl, refl));
+  kinds = word_kinds s;
+})
 
-token_mark : (x : variable.Kind ⊎ Head) → is_mark (tokens x) ≡ false
-token_mark (inl k) = refl
-token_mark (inr h) = refl
+-- 8. The section
+abbrev after : (s : Declaring) → (w : EntryWord) × EntryRest w → Declaring
+after s y = (rest_spec s y.0).value y.1
 
-body_law : (p : Problem) → Lawful (body p) (variables_at p)
-unfolding variables_at
-body_law p = Lawful-body Fixed tokens (λ k. k) judge_word heads.End item declared_before
+abbrev Trees : Declaring → Type 0
+Trees s = Turns (λ z. (w : EntryWord) × EntryRest w) (λ z. Head) after s
+
+abbrev body : (s : Declaring) → Spec (Trees s) (Problem × Head)
+body s = body_spec Fixed first_token (λ w. w) judge_word heads.End rest_spec declared_before s
+
+declaration_marks : (o : Option (Items ℤ)) (d : List Terminal) → OnlyMarks (λ t. (blocks_dims o t && is_nil d) || false)
+declaration_marks None d t e = ap (λ b. (b && is_nil d) || false) (is_no_other OpenSquare t e)
+declaration_marks (Some l) d t e = refl
+
+entry_marks : (s : Declaring) (w : EntryWord) (y : EntryRest w) → OnlyMarks ((rest_spec s w).blocks y)
+entry_marks s (kind_word k) y = declaration_marks y.1.0 (spell_domain k y.1.1)
+entry_marks s alias_word y = target_marks s.problem y.0.bytes y.1
+
+no_mark : (x : EntryWord ⊎ Head) → is_mark (first_token x) ≡ false
+no_mark (inl (kind_word k)) = refl
+no_mark (inl alias_word) = refl
+no_mark (inr h) = refl
+
+body_law : (s : Declaring) → Lawful (body s) (entries_at s)
+unfolding entries_at
+body_law s = Lawful-body Fixed first_token (λ w. w) judge_word heads.End rest_spec declared_before
     (record {
-      apart = λ z k y x. blocks_marks y.1.0 (spell_domain k y.1.1) (tokens x) (token_mark x);
-      fits = λ z k y. (blocks_marks y.1.0 (spell_domain k y.1.1) _ refl, blocks_marks y.1.0 (spell_domain k y.1.1) _ refl);
+      apart = λ z w y x. entry_marks z w y (first_token x) (no_mark x);
+      fits = λ z w y. Fits-marks Fixed ((rest_spec z w).blocks y) (entry_marks z w y);
     })
-    word_at declaration_at word_law item_law p
+    word_at entry_at word_law rest_law s
 
 -- 9. The same trees as they are published
-abbrev a_declaration : (k : variable.Kind) × Rest k → Declaration
-a_declaration x = record { kind = x.0; name = x.1.0; dims = x.1.1.0; domain = x.1.1.1 }
+abbrev entry_of : (w : EntryWord) → EntryRest w → Entry
+entry_of (kind_word k) y = declares (record { kind = k; name = y.0; dims = y.1.0; domain = y.1.1 })
+entry_of alias_word y = names (record { name = y.0; target = y.1 })
 
-declarations_onto : (p : Problem) → Trees p → List Declaration
-declarations_onto p (last h) = []
-declarations_onto p (more x gs) = a_declaration x ∷ declarations_onto (after p x) gs
+abbrev rest_of : Entry → (w : EntryWord) × EntryRest w
+rest_of (declares d) = (kind_word d.kind, (d.name, (d.dims, d.domain)))
+rest_of (names a) = (alias_word, (a.name, a.target))
 
-head_onto : (p : Problem) → Trees p → Head
-head_onto p (last h) = h
-head_onto p (more x gs) = head_onto (after p x) gs
+entry_again : (e : Entry) → entry_of (rest_of e).0 (rest_of e).1 ≡ e
+entry_again (declares d) = refl
+entry_again (names a) = refl
 
-trees_back : List Declaration → Head → (p : Problem) → Trees p
-trees_back [] h p = last h
-trees_back (d ∷ ds) h p = more (d.kind, (d.name, (d.dims, d.domain))) (trees_back ds h (declared p d))
+entry_spells : (s : Declaring) (w : EntryWord) (y : EntryRest w) → spell_entry (entry_of w y) ≡ entry_token w ∷ (rest_spec s w).spell y
+entry_spells s (kind_word k) y = refl
+entry_spells s alias_word y = refl
 
-declarations_again : (ds : List Declaration) (h : Head) (p : Problem) → declarations_onto p (trees_back ds h p) ≡ ds
-unfolding declarations_onto trees_back
-declarations_again [] h p = refl
-declarations_again (d ∷ ds) h p = ap (λ r. d ∷ r) (declarations_again ds h (declared p d))
+entry_breaks : (s : Declaring) (w : EntryWord) (y : EntryRest w) → breaks_entry s (entry_of w y) ≡ on (judge_word s (inl w)) ++ behind 1 ((rest_spec s w).breaks y)
+entry_breaks s (kind_word k) y = refl
+entry_breaks s alias_word y = refl
 
-head_again : (ds : List Declaration) (h : Head) (p : Problem) → head_onto p (trees_back ds h p) ≡ h
-unfolding head_onto trees_back
-head_again [] h p = refl
-head_again (d ∷ ds) h p = head_again ds h (declared p d)
+entry_means : (s : Declaring) (w : EntryWord) (y : EntryRest w) → value_entry s (entry_of w y) ≡ (rest_spec s w).value y
+entry_means s (kind_word k) y = refl
+entry_means s alias_word y = refl
 
-declarations_spell : (p : Problem) (gs : Trees p) → spell_declarations (declarations_onto p gs) (head_onto p gs) ≡ (body p).spell gs
-unfolding declarations_onto head_onto
-declarations_spell p (last h) = refl
-declarations_spell p (more x gs) = ap (λ r. spell_declaration (a_declaration x) ++ r) (declarations_spell (after p x) gs)
+abbrev entries_onto : (s : Declaring) → Trees s → List Entry
+entries_onto s (last h) = []
+entries_onto s (more y gs) = entry_of y.0 y.1 ∷ entries_onto (after s y) gs
 
-declarations_breaks : (p : Problem) (gs : Trees p) → first (breaks_declarations p (declarations_onto p gs)) ≡ first ((body p).breaks gs)
-unfolding declarations_onto
-declarations_breaks p (last h) = refl
-declarations_breaks p (more x gs) =
-    alike_append (breaks_declaration p (a_declaration x)) (breaks_declaration p (a_declaration x)) _ _ refl
-    (alike_behind (length (spell_declaration (a_declaration x))) (breaks_declarations (after p x) (declarations_onto (after p x) gs)) ((body (after p x)).breaks gs) (declarations_breaks (after p x) gs))
+abbrev head_onto : (s : Declaring) → Trees s → Head
+head_onto s (last h) = h
+head_onto s (more y gs) = head_onto (after s y) gs
 
-declarations_value : (p : Problem) (gs : Trees p) → ◌≡◌ {A = Problem × Head} (value_declarations p (declarations_onto p gs), head_onto p gs) ((body p).value gs)
-unfolding declarations_onto head_onto
-declarations_value p (last h) = refl
-declarations_value p (more x gs) = declarations_value (after p x) gs
+abbrev trees_back : List Entry → Head → (s : Declaring) → Trees s
+trees_back [] h s = last h
+trees_back (e ∷ es) h s = more (rest_of e) (trees_back es h (after s (rest_of e)))
 
-declarations_blocks : (p : Problem) (gs : Trees p) (t : Terminal) → false ≡ (body p).blocks gs t
-declarations_blocks p gs t = sym (body_blocks Fixed tokens (λ k. k) judge_word heads.End item declared_before p gs t)
+entries_again : (es : List Entry) (h : Head) (s : Declaring) → entries_onto s (trees_back es h s) ≡ es
+entries_again [] h s = refl
+entries_again (e ∷ es) h s =
+    ap (λ a. a ∷ entries_onto (after s (rest_of e)) (trees_back es h (after s (rest_of e)))) (entry_again e)
+    ∙ ap (λ r. e ∷ r) (entries_again es h (after s (rest_of e)))
+
+head_again : (es : List Entry) (h : Head) (s : Declaring) → head_onto s (trees_back es h s) ≡ h
+head_again [] h s = refl
+head_again (e ∷ es) h s = head_again es h (after s (rest_of e))
+
+entries_spell : (s : Declaring) (gs : Trees s) → spell_declarations (entries_onto s gs) (head_onto s gs) ≡ (body s).spell gs
+entries_spell s (last h) = refl
+entries_spell s (more y gs) =
+    ap (λ l. l ++ spell_declarations (entries_onto (after s y) gs) (head_onto (after s y) gs)) (entry_spells s y.0 y.1)
+    ∙ ap (λ l. (entry_token y.0 ∷ (rest_spec s y.0).spell y.1) ++ l) (entries_spell (after s y) gs)
+
+entries_break : (s : Declaring) (gs : Trees s) → breaks_entries s (entries_onto s gs) ≡ (body s).breaks gs
+entries_break s (last h) = refl
+entries_break s (more y gs) =
+    ap (λ l. l ++ behind (length (spell_entry (entry_of y.0 y.1))) (breaks_entries (value_entry s (entry_of y.0 y.1)) (entries_onto (after s y) gs))) (entry_breaks s y.0 y.1)
+    ∙ ap (λ l. broken ++ behind (length l) (breaks_entries (value_entry s (entry_of y.0 y.1)) (entries_onto (after s y) gs))) (entry_spells s y.0 y.1)
+    ∙ ap (λ z. broken ++ behind size (breaks_entries z (entries_onto (after s y) gs))) (entry_means s y.0 y.1)
+    ∙ ap (λ l. broken ++ behind size l) (entries_break (after s y) gs)
+  where
+    broken : List Break
+    broken = on (judge_word s (inl y.0)) ++ behind 1 ((rest_spec s y.0).breaks y.1)
+
+    size : ℕ
+    size = length (entry_token y.0 ∷ (rest_spec s y.0).spell y.1)
+
+entries_mean : (s : Declaring) (gs : Trees s) → ◌≡◌ {A = Problem × Head} ((value_entries s (entries_onto s gs)).problem, head_onto s gs) ((body s).value gs)
+entries_mean s (last h) = refl
+entries_mean s (more y gs) =
+    ap (λ (z : Declaring). ((value_entries z (entries_onto (after s y) gs)).problem, head_onto (after s y) gs)) (entry_means s y.0 y.1)
+    ∙ entries_mean (after s y) gs
+
+entries_blocks : (s : Declaring) (gs : Trees s) (t : Terminal) → false ≡ (body s).blocks gs t
+entries_blocks s gs t = sym (body_blocks Fixed first_token (λ w. w) judge_word heads.End rest_spec declared_before s gs t)
 
 pub section_law : (p : Problem) → Lawful (variables_spec p) (variables_at p)
-section_law p = Lawful-view (body p) (variables_spec p)
+section_law p = Lawful-view (body (so_far p)) (variables_spec p)
     (record {
-      onto = λ gs. (declarations_onto p gs, head_onto p gs);
-      back = λ x. trees_back x.0 x.1 p;
-      again = λ x. λ i. (declarations_again x.0 x.1 p i, head_again x.0 x.1 p i);
-      spell = declarations_spell p;
-      breaks = declarations_breaks p;
-      value = declarations_value p;
-      blocks = declarations_blocks p;
+      onto = λ gs. (entries_onto (so_far p) gs, head_onto (so_far p) gs);
+      back = λ x. trees_back x.0 x.1 (so_far p);
+      again = λ x. λ i. (entries_again x.0 x.1 (so_far p) i, head_again x.0 x.1 (so_far p) i);
+      spell = entries_spell (so_far p);
+      breaks = λ gs. ap first (entries_break (so_far p) gs);
+      value = entries_mean (so_far p);
+      blocks = entries_blocks (so_far p);
       start = refl;
     })
-    (variables_at p) (body_law p)
+    (variables_at p) (body_law (so_far p))

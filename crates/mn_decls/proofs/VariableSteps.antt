@@ -5,7 +5,7 @@ use Rattle.mn_lexer.specs.Terminals.{Terminal}
 use Rattle.mn_lexer.specs.declared.marks.Mark.{Mark}
 use Rattle.mn_lexer.specs.declared.marks.Mark.TheVariants.{OpenSquare, CloseSquare, OpenCurly, CloseCurly, Dots}
 use Rattle.mn_grammar.specs.Places.{when}
-use Rattle.mn_grammar.specs.Reading.{Reader, either_of, or_else, which_mark, go_on, then_read, ret, refused, fault_at, judged, which_either, number_at, name_at, mark_at}
+use Rattle.mn_grammar.specs.Reading.{Reader, one, which_of, either_of, or_else, which_mark, go_on, then_read, ret, refused, fault_at, judged, number_at, name_at, mark_at}
 use Rattle.mn_grammar.specs.Gives.{Stops}
 use Rattle.mn_grammar.specs.declared.site.Site.TheVariants.{Fixed, MarksOnly}
 use Rattle.mn_grammar.specs.declared.Kind.TheVariants as kinds
@@ -18,20 +18,22 @@ use Rattle.mn_grammar.specs.Places.{on}
 use Rattle.mn_grammar.specs.Lists.{items_at, maybe_at}
 use Rattle.mn_grammar.specs.declared.site.Site.TheVariants.{Free}
 use Rattle.mn_grammar.specs.Tokens.{is_the_mark}
-use Rattle.mn_decls.specs.Looks.{first_as}
-use Rattle.mn_decls.specs.Lists.{comma_or_at}
-use Rattle.mn_decls.specs.Variables.{any_number, fair_dim, fair_end, stretch_at, dims_ends, with_dim, dim_at, dims_at, dims_list_at, spell_number, spell_part, breaks_part, ends_of_part, parts_ends, with_part, fair_first, fair_last, one_value, part_at, range_at, parts_at, parts_list_at, new_name, declaration_at, domain_at, word_at, judge_word, kind_of, room_for_one, declared_before, variables_at}
-use Rattle.mn_decls.specs.Added.{with_declaration}
-use Rattle.mn_decls.specs.Heads.{head_of}
-use Rattle.mn_decls.specs.declared.heads.Head.{Head}
+use Rattle.mn_cursor.specs.Looks.{first_as}
+use Rattle.mn_cursor.specs.Lists.{comma_or_at}
+use Rattle.mn_decls.specs.Variables.{any_number, fair_dim, fair_end, stretch_at, dims_ends, with_dim, dim_at, dims_at, dims_list_at, spell_number, spell_part, breaks_part, ends_of_part, parts_ends, with_part, fair_first, fair_last, one_value, part_at, range_at, parts_at, parts_list_at, new_name, declaration_at, domain_at, Declaring, so_far, EntryWord, kind_word, alias_word, entry_token, entry_words, which_word, word_at, judge_word, entry_at, alias_at, declared_before, entries_at}
+use Rattle.mn_references.specs.Conditions.{as_kind}
+use Rattle.mn_grammar.specs.declared.Kind.{Kind}
+use Rattle.mn_cursor.specs.Added.{with_declaration}
+use Rattle.mn_cursor.specs.Heads.{head_of}
+use Rattle.mn_cursor.specs.declared.heads.Head.{Head}
 use Rattle.mn_model.specs.declared.variable.Kind as variable
 use Rattle.mn_model.specs.declared.limits.TheConstants.{SPAN}
 use Rattle.mn_model.proofs.Stretches.{length-stretch}
-use Rattle.mn_decls.proofs.ListSteps.{entry_stops, comma_stops, entry_goes_on, entry_ends}
-use Rattle.mn_decls.proofs.VariableLaw.{nothing_goes_on, dims_are, dim_law, part_blocks, parts_are, part_law, item, item_law}
-use Rattle.mn_decls.proofs.Looking.{one_seen, unseen_stops, seen_stops, seen_reads}
-use Rattle.mn_decls.proofs.Turning.{stops_first, stops_second, stops_same, with_mark, without_mark, one_leaves, read_leaves, item_stops, item_goes_on, body_ends}
-use Rattle.mn_decls.proofs.Turning.{first_stops as first_stops_of}
+use Rattle.mn_cursor.proofs.ListSteps.{entry_stops, comma_stops, entry_goes_on, entry_ends}
+use Rattle.mn_decls.proofs.VariableLaw.{nothing_goes_on, dims_are, dim_law, part_blocks, parts_are, part_law, rest_spec, rest_law}
+use Rattle.mn_cursor.proofs.Looking.{one_seen, unseen_stops, seen_stops, seen_reads}
+use Rattle.mn_cursor.proofs.Turning.{stops_first, stops_second, stops_same, with_mark, without_mark, one_leaves, read_leaves, item_stops, item_goes_on, body_ends}
+use Rattle.mn_cursor.proofs.Turning.{first_stops as first_stops_of}
 
 -- 1. The ends of a stretch
 module _ (limited : Bool) (ts : List Terminal) where
@@ -209,60 +211,84 @@ module _ (p : Problem) (k : variable.Kind) (ts : List Terminal) where
           ∙ ap (λ r. go_on r (λ v. ret (with_declaration p w dims k v))) is
 
 -- 8. The section, by its first token
-word_leaves : (p : Problem) (ts : List Terminal) (w : variable.Kind ⊎ Head) (us : List Terminal) → word_at p ts ≡ Ok (w, us) → length us < length ts
+word_leaves : (s : Declaring) (ts : List Terminal) (w : EntryWord ⊎ Head) (us : List Terminal) → word_at s ts ≡ Ok (w, us) → length us < length ts
 unfolding word_at
-word_leaves p ts w us e = one_leaves Fixed (which_either kind_of head_of) (judge_word p) ts w us e
+word_leaves s ts w us e = one_leaves Fixed which_word (judge_word s) ts w us e
 
-declaration_leaves : (p : Problem) (k : variable.Kind) (ts : List Terminal) (q : Problem) (us : List Terminal) → declaration_at p k ts ≡ Ok (q, us) → length us ≤ length ts
-declaration_leaves p k ts q us e = read_leaves (item p k) (declaration_at p k) (item_law p k) ts q us e
+entry_leaves : (s : Declaring) (w : EntryWord) (ts : List Terminal) (z : Declaring) (us : List Terminal) → entry_at s w ts ≡ Ok (z, us) → length us ≤ length ts
+entry_leaves s w ts z us e = read_leaves (rest_spec s w) (entry_at s w) (rest_law s w) ts z us e
 
-module _ (p : Problem) (ts : List Terminal) where
-  pub unseen_word : (e : Stop) → (first_as (which_either kind_of head_of) ts ≡ None) × (e ≡ Refused (refused Fixed ts)) → Stops e (variables_at p ts)
-  unfolding variables_at word_at
-  unseen_word e is = first_stops_of word_at declaration_at declared_before word_leaves declaration_leaves p ts e (unseen_stops Fixed (which_either kind_of head_of) (judge_word p) ts e is)
+module _ (s : Declaring) (ts : List Terminal) where
+  pub unseen_word : (e : Stop) → (first_as which_word ts ≡ None) × (e ≡ Refused (refused Fixed ts)) → Stops e (entries_at s ts)
+  unfolding entries_at word_at
+  unseen_word e is = first_stops_of word_at entry_at declared_before word_leaves entry_leaves s ts e (unseen_stops Fixed which_word (judge_word s) ts e is)
 
-  module _ (k : variable.Kind) (is : first_as (which_either kind_of head_of) ts ≡ Some (inl k)) where
-    pub word_stops : (e : Stop) → Stops e (judged (room_for_one p) (tt {0}) ts (drop 1 ts)) → Stops e (variables_at p ts)
-    unfolding variables_at word_at
-    word_stops e stops = first_stops_of word_at declaration_at declared_before word_leaves declaration_leaves p ts e (seen_stops Fixed (which_either kind_of head_of) (judge_word p) (inl k) ts e is stops)
+  module _ (w : EntryWord) (is : first_as which_word ts ≡ Some (inl w)) where
+    pub word_stops : (e : Stop) → Stops e (judged (judge_word s (inl w)) (tt {0}) ts (drop 1 ts)) → Stops e (entries_at s ts)
+    unfolding entries_at word_at
+    word_stops e stops = first_stops_of word_at entry_at declared_before word_leaves entry_leaves s ts e (seen_stops Fixed which_word (judge_word s) (inl w) ts e is stops)
 
-    module _ (us : List Terminal) (reads : judged (room_for_one p) (tt {0}) ts (drop 1 ts) ≡ Ok (tt {0}, us)) where
-      word_read : word_at p ts ≡ Ok (inl k, us)
+    module _ (us : List Terminal) (reads : judged (judge_word s (inl w)) (tt {0}) ts (drop 1 ts) ≡ Ok (tt {0}, us)) where
+      word_read : word_at s ts ≡ Ok (inl w, us)
       unfolding word_at
-      word_read = seen_reads Fixed (which_either kind_of head_of) (judge_word p) (inl k) ts us is reads
+      word_read = seen_reads Fixed which_word (judge_word s) (inl w) ts us is reads
 
-      pub declaration_stops : (e : Stop) → Stops e (declaration_at p k us) → Stops e (variables_at p ts)
-      unfolding variables_at
-      declaration_stops e stops = item_stops word_at declaration_at declared_before word_leaves declaration_leaves p ts k us e word_read (stops_first e _ _ stops)
+      pub rest_stops : (e : Stop) → Stops e (entry_at s w us) → Stops e (entries_at s ts)
+      unfolding entries_at
+      rest_stops e stops = item_stops word_at entry_at declared_before word_leaves entry_leaves s ts w us e word_read (stops_first e _ _ stops)
 
-      pub declaration_goes_on : (q : Problem) (vs : List Terminal) → declaration_at p k us ≡ Ok (q, vs) → (variables_at q vs ≡ variables_at p ts) × (length vs < length ts)
-      unfolding variables_at
-      declaration_goes_on q vs goes = (
-        sym (item_goes_on word_at declaration_at declared_before word_leaves declaration_leaves p ts k us q vs word_read goes),
-        let one = word_leaves p ts (inl k) us word_read in
-            let two = declaration_leaves p k us q vs goes in
+      pub rest_goes_on : (z : Declaring) (vs : List Terminal) → entry_at s w us ≡ Ok (z, vs) → (entries_at z vs ≡ entries_at s ts) × (length vs < length ts)
+      unfolding entries_at
+      rest_goes_on z vs goes = (
+        sym (item_goes_on word_at entry_at declared_before word_leaves entry_leaves s ts w us z vs word_read goes),
+        let one = word_leaves s ts (inl w) us word_read in
+            let two = entry_leaves s w us z vs goes in
             omega arith,
       )
 
-  head_seen : (h : Head) → first_as (which_either kind_of head_of) ts ≡ Some (inr h) → first_as head_of ts ≡ Some h
+  head_seen : (h : Head) → first_as which_word ts ≡ Some (inr h) → first_as head_of ts ≡ Some h
   head_seen h is = at ts is
     where
-      by : (o : Option variable.Kind) (r : Option Head) → either_of o r ≡ Some (inr h) → r ≡ Some h
+      by : (o : Option EntryWord) (r : Option Head) → either_of o r ≡ Some (inr h) → r ≡ Some h
       by (Some w) r e = absurd (let same : inl w ≡ inr h = cc in absurd cc)
-      by None (Some g) e = let same : ◌≡◌ {A = variable.Kind ⊎ Head} (inr g) (inr h) = cc in cc
+      by None (Some g) e = let same : ◌≡◌ {A = EntryWord ⊎ Head} (inr g) (inr h) = cc in cc
       by None None e = cc
 
-      at : (us : List Terminal) → first_as (which_either kind_of head_of) us ≡ Some (inr h) → first_as head_of us ≡ Some h
+      at : (us : List Terminal) → first_as which_word us ≡ Some (inr h) → first_as head_of us ≡ Some h
       at [] e = cc
-      at (t ∷ us) e = by (kind_of t) (head_of t) e
+      at (t ∷ us) e = by (which_of entry_token entry_words t) (head_of t) e
 
-  pub declarations_end : (h : Head) → first_as (which_either kind_of head_of) ts ≡ Some (inr h) → (h' : Head) × (first_as head_of ts ≡ Some h') × (variables_at p ts ≡ Ok ((p, h'), drop 1 ts))
-  unfolding variables_at word_at
-  declarations_end h is = (
-    h,
-    head_seen h is,
-    body_ends word_at declaration_at declared_before word_leaves declaration_leaves p ts h (drop 1 ts) (seen_reads Fixed (which_either kind_of head_of) (judge_word p) (inr h) ts (drop 1 ts) is refl),
-  )
+  module _ (h : Head) (is : first_as which_word ts ≡ Some (inr h)) where
+    pub head_stops : (k : Kind) (e : Stop) → as_kind s.behind ≡ Some k → e ≡ Refused (fault_at ts k) → Stops e (entries_at s ts)
+    unfolding entries_at word_at
+    head_stops k e broken refused_so =
+        first_stops_of word_at entry_at declared_before word_leaves entry_leaves s ts e
+        (subst (λ x. Stops x (one Fixed which_word (judge_word s) ts)) (sym refused_so)
+        (one_seen Fixed which_word (judge_word s) (inr h) ts is ∙ ap (λ c. judged c (inr h) ts (drop 1 ts)) broken))
+
+    pub entries_end : as_kind s.behind ≡ None → (h' : Head) × (first_as head_of ts ≡ Some h') × (entries_at s ts ≡ Ok ((s.problem, h'), drop 1 ts))
+    unfolding entries_at word_at
+    entries_end kept = (
+      h,
+      head_seen h is,
+      body_ends word_at entry_at declared_before word_leaves entry_leaves s ts h (drop 1 ts)
+          (one_seen Fixed which_word (judge_word s) (inr h) ts is ∙ ap (λ c. judged c (inr h) ts (drop 1 ts)) kept),
+    )
+
+-- what follows a kind's word is a declaration
+module _ (s : Declaring) (k : variable.Kind) (ts : List Terminal) where
+  pub kind_stops : (e : Stop) → Stops e (declaration_at s.problem k ts) → Stops e (entry_at s (kind_word k) ts)
+  unfolding entry_at
+  kind_stops e stops = stops_first e _ _ stops
+
+  pub kind_reads : (q : Problem) (us : List Terminal) → declaration_at s.problem k ts ≡ Ok (q, us) → entry_at s (kind_word k) ts ≡ Ok (so_far q, us)
+  unfolding entry_at
+  kind_reads q us reads = ap (λ r. go_on r (λ q. ret (so_far q))) reads
+
+-- and what follows ALIAS is an alias
+pub alias_same : (s : Declaring) → entry_at s alias_word ≡ alias_at s.problem
+unfolding entry_at
+alias_same s = refl
 
 -- 9. A domain suits its kind, and room for a variable
 pub is_short : (lo hi : ℤ) → fair_end true lo hi ≡ None → length (stretch lo hi) ≤ SPAN

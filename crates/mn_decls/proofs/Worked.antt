@@ -20,16 +20,17 @@ use Rattle.mn_grammar.specs.declared.site.Site.TheVariants.{MarksOnly}
 use Rattle.mn_grammar.specs.declared.Kind.{Kind}
 use Rattle.mn_grammar.specs.declared.Kind.TheVariants.{Name, Shape, Syntax, Unsupported, Again, Limit, NumberRange as PastNumber}
 use Rattle.mn_grammar.specs.declared.Limit.TheVariants.{Vector}
-use Rattle.mn_decls.specs.Conditions.{lesser, as_kind}
-use Rattle.mn_decls.specs.References.{Aim, Found, one_place, as_wanted}
-use Rattle.mn_decls.specs.Entries.{any_number, a_term, at_more, at_end_in}
-use Rattle.mn_decls.specs.declared.want.Bounds.{Bounds}
-use Rattle.mn_decls.specs.Search.{Asking, nothing_asked}
-use Rattle.mn_decls.specs.Referring.{sub_at, subs_at, behind_name, ref_at, behind_entry, entry_at, list_at, behind_vector, vector_at, behind_row, row_at}
-use Rattle.mn_decls.specs.Searching.{order_at, behind_static, var_order_at, way_at, val_order_at, rows_at, behind_print, print_at, item_rest, item_first, search_at}
-use Rattle.mn_decls.specs.declared.heads.Head.{Head}
-use Rattle.mn_decls.specs.declared.want.Unfit.TheVariants.{Form, Length}
-use Rattle.mn_decls.specs.declared.want.Want.{Want}
+use Rattle.mn_references.specs.Conditions.{lesser, as_kind}
+use Rattle.mn_references.specs.References.{Aim, Found, one_place, as_wanted}
+use Rattle.mn_references.specs.Entries.{any_number, a_term, at_more, at_end_in}
+use Rattle.mn_references.specs.declared.want.Bounds.{Bounds}
+use Rattle.mn_cursor.specs.Progress.{nothing_asked}
+use Rattle.mn_decls.specs.Search.{Asking}
+use Rattle.mn_references.specs.Referring.{sub_at, subs_at, behind_name, ref_at, behind_entry, entry_at, list_at, behind_vector, vector_at, behind_row, row_at}
+use Rattle.mn_decls.specs.Searching.{order_at, behind_static, var_order_at, way_at, ways_at, val_order_at, rows_at, behind_print, print_at, item_rest, item_first, search_at}
+use Rattle.mn_cursor.specs.declared.heads.Head.{Head}
+use Rattle.mn_references.specs.declared.want.Unfit.TheVariants.{Form, Length}
+use Rattle.mn_references.specs.declared.want.Want.{Want}
 
 -- BOOL x, DISCRETE q[3] {0..2}, BOOL m[2,3], ALIAS r[2] = [q[1],x], ALIAS s = q[2]
 abbrev declared : Problem
@@ -264,7 +265,7 @@ what_search_says :
     × (section (word (codes "PRINT") ∷ opens ∷ opens ∷ shut ∷ comma ∷ num 4 ∷ shut ∷ []) ≡ Ok (none_ordered, None, printed.Rows ([] ∷ (Const (pos 4) ∷ []) ∷ [])))
     × (section (word (codes "PRINT") ∷ opens ∷ m ∷ comma ∷ r ∷ shut ∷ []) ≡ Ok (none_ordered, None, printed.Rows ((Var (variable 4) ∷ Var (variable 5) ∷ Var (variable 6) ∷ []) ∷ (Var (variable 7) ∷ Var (variable 8) ∷ Var (variable 9) ∷ []) ∷ (Var (variable 2) ∷ Var (variable 0) ∷ []) ∷ [])))
     × (section (word (codes "PRINT") ∷ opens ∷ opens ∷ r ∷ comma ∷ bang ∷ x ∷ shut ∷ shut ∷ []) ≡ Ok (none_ordered, None, printed.Rows ((Var (variable 2) ∷ Var (variable 0) ∷ Not (variable 0) ∷ []) ∷ [])))
-unfolding loop ref_at behind_name subs_at sub_at mark_at name_at items_at end_at entry_at behind_entry list_at maybe_at row_at behind_row search_at body_at item_first item_rest one_of order_at behind_static var_order_at way_at val_order_at rows_at behind_print print_at
+unfolding loop ref_at behind_name subs_at sub_at mark_at name_at items_at end_at entry_at behind_entry list_at maybe_at row_at behind_row search_at body_at item_first item_rest one_of order_at behind_static var_order_at way_at ways_at val_order_at rows_at behind_print print_at
 what_search_says = (refl, refl, refl, refl, refl, refl, refl, refl, refl)
 
 what_search_breaks :
@@ -280,7 +281,7 @@ what_search_breaks :
     × (section (word (codes "VARORDER") ∷ word (codes "SDF") ∷ []) ≡ refusal 2 Unsupported)
     × (section (word (codes "PRINT") ∷ []) ≡ refusal 1 Unsupported)
     × (section (word (codes "PRINT") ∷ opens ∷ comma ∷ []) ≡ refusal 2 Syntax)
-unfolding loop ref_at behind_name subs_at sub_at mark_at name_at items_at end_at entry_at behind_entry list_at maybe_at row_at behind_row search_at body_at item_first item_rest one_of order_at behind_static var_order_at way_at val_order_at rows_at behind_print print_at
+unfolding loop ref_at behind_name subs_at sub_at mark_at name_at items_at end_at entry_at behind_entry list_at maybe_at row_at behind_row search_at body_at item_first item_rest one_of order_at behind_static var_order_at way_at ways_at val_order_at rows_at behind_print print_at
 what_search_breaks = (refl, refl, refl, refl, refl, refl, refl, refl, refl, refl, refl, refl)
 
 -- a whole matrix as an objective ends at the next token, whatever that is, but the grammar and what counts more come first
@@ -293,5 +294,5 @@ what_ends_an_objective :
     × (section (maximising ∷ q ∷ comma ∷ []) ≡ refusal 2 Syntax)
     × (whole None (search_at asking) (maximising ∷ q ∷ []) ≡ refusal 0 Syntax)
     × (whole (Some (NumberRange 9)) (search_at asking) (maximising ∷ q ∷ []) ≡ refusal 0 PastNumber)
-unfolding loop ref_at behind_name subs_at sub_at mark_at name_at items_at end_at entry_at behind_entry list_at maybe_at row_at behind_row search_at body_at item_first item_rest one_of order_at behind_static var_order_at way_at val_order_at rows_at behind_print print_at
+unfolding loop ref_at behind_name subs_at sub_at mark_at name_at items_at end_at entry_at behind_entry list_at maybe_at row_at behind_row search_at body_at item_first item_rest one_of order_at behind_static var_order_at way_at ways_at val_order_at rows_at behind_print print_at
 what_ends_an_objective = (refl, refl, refl, refl, refl, refl, refl, refl)

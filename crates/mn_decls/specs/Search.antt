@@ -14,24 +14,16 @@ use Rattle.mn_grammar.specs.Lists.{Items, spell_maybe, Ends, Judge, breaks_maybe
 use Rattle.mn_grammar.specs.declared.Kind.{Kind}
 use Rattle.mn_grammar.specs.declared.Kind.TheVariants as kinds
 use Rattle.mn_grammar.specs.declared.Limit.TheVariants as limits
-use Rattle.mn_decls.specs.Conditions.{lesser, as_kind, unfit}
-use Rattle.mn_decls.specs.declared.want.Unfit.{Unfit}
-use Rattle.mn_decls.specs.declared.want.Unfit.TheVariants.{Length}
-use Rattle.mn_decls.specs.References.{Ref, spell_ref, Aim, Found, breaks_ref, value_ref, one_place}
-use Rattle.mn_decls.specs.Heads.{head_token}
-use Rattle.mn_decls.specs.declared.heads.Head.{Head}
-use Rattle.mn_decls.specs.Entries.{Row, Rows, spell_row, breaks_row, value_row}
-
--- which items the text has had; each may stand once
-pub record Asked : Type 0 where
-  pub order : Bool
-  pub values : Bool
-  pub goal : Bool
-  pub print : Bool
-
--- none of them
-abbrev pub nothing_asked : Asked
-nothing_asked = record { order = false; values = false; goal = false; print = false }
+use Rattle.mn_references.specs.Conditions.{lesser, as_kind}
+use Rattle.mn_references.specs.declared.want.Unfit.{Unfit}
+use Rattle.mn_references.specs.References.{Ref, spell_ref, Aim, Found, breaks_ref, value_ref, one_place, order_aim_behind}
+use Rattle.mn_cursor.specs.Heads.{head_token}
+use Rattle.mn_cursor.specs.declared.asked.Asked.{Asked}
+use Rattle.mn_cursor.specs.declared.heads.Head.{Head}
+use Rattle.mn_cursor.specs.declared.heads.Head.TheVariants.{End}
+use Rattle.mn_grammar.specs.Lawful.{Spec}
+use Rattle.mn_grammar.specs.declared.site.Site.TheVariants.{Fixed}
+use Rattle.mn_references.specs.Entries.{Row, Rows, spell_row, breaks_row, value_row}
 
 -- What the text says so far, and what the next token breaks, whatever it is: an objective that is a whole matrix ends
 -- only there.
@@ -64,16 +56,17 @@ abbrev pub at_word : Asking → ItemWord → Option Kind
 at_word s w = lesser (as_kind s.behind) (may_stand s.asked w)
 
 -- VARORDER: the variables of its references, one behind another, as many as the limit allows
-abbrev pub order_aim_behind : ℕ → Aim
-order_aim_behind n = record { slices = true; ends = λ full vars. unfit (ltb PLACES (n + length vars)) Length }
-
 abbrev pub order_aim : List VarId → Aim
 order_aim vars = order_aim_behind (length vars)
+
+-- at the `,` behind these variables: the limit leaves one more
+abbrev pub at_full : List VarId → Option Kind
+at_full vars = when (leb PLACES (length vars)) (kinds.Limit limits.Vector)
 
 abbrev pub order_ends : Ends (List VarId) Found
 order_ends = record {
   next = λ vars f. vars ++ f.vars;
-  comma = λ vars f. lesser (as_kind f.behind) (when (leb PLACES (length (vars ++ f.vars))) (kinds.Limit limits.Vector));
+  comma = λ vars f. lesser (as_kind f.behind) (at_full (vars ++ f.vars));
   close = λ vars f. as_kind f.behind;
 }
 
@@ -257,3 +250,14 @@ value_section s (i ∷ items) = value_section (value_item s i) items
 pub record Section : Type 0 where
   pub items : List Item
   pub next : Head
+
+-- the same as a language
+abbrev pub section_spec : Asking → Spec Section (Asking × Head)
+section_spec s = record {
+  spell = λ x. spell_section x.items x.next;
+  breaks = λ x. breaks_section s x.items;
+  value = λ x. (value_section s x.items, x.next);
+  blocks = λ x t. false;
+  start = Fixed;
+  any = record { items = []; next = End };
+}

@@ -13,12 +13,12 @@ use Rattle.mn_grammar.specs.Lists.{maybe_at}
 use Rattle.mn_grammar.specs.Bodies.{body_at}
 use Rattle.mn_grammar.specs.declared.site.Site.TheVariants.{Fixed, MarksOnly}
 use Rattle.mn_grammar.specs.declared.Kind.{Kind}
-use Rattle.mn_decls.specs.Conditions.{as_kind}
-use Rattle.mn_decls.specs.Heads.{head_of}
-use Rattle.mn_decls.specs.declared.heads.Head.{Head}
-use Rattle.mn_decls.specs.References.{one_place}
+use Rattle.mn_references.specs.Conditions.{as_kind}
+use Rattle.mn_cursor.specs.Heads.{head_of}
+use Rattle.mn_cursor.specs.declared.heads.Head.{Head}
+use Rattle.mn_references.specs.References.{one_place}
 use Rattle.mn_decls.specs.Search.{Asking, ItemWord, says_order, says_values, maximises, minimises, prints, item_token, at_word, order_aim, order_ends, all_vars, way_token, values_ends, at_way, all_ways, no_ways, rows_ends, all_rows, with_order, with_values, with_goal, with_print}
-use Rattle.mn_decls.specs.Referring.{ref_at, row_at}
+use Rattle.mn_references.specs.Referring.{ref_at, row_at}
 
 -- references, behind `[`
 unfoldable pub order_at : Problem → Reader (List VarId)
@@ -46,8 +46,11 @@ var_order_at p = then_read (one_of Fixed static_token both no_break) (behind_sta
 unfoldable pub way_at : ℕ → List Bool → Reader Bool
 way_at wanted down = one_of Fixed way_token both (at_way wanted down)
 
+unfoldable pub ways_at : ℕ → Reader (List Bool)
+ways_at wanted = maybe_at CloseSquare (values_ends wanted) (no_ways wanted) [] all_ways (way_at wanted) []
+
 unfoldable pub val_order_at : ℕ → Reader (List Bool)
-val_order_at wanted = then_read (mark_at MarksOnly OpenSquare None) (λ u. maybe_at CloseSquare (values_ends wanted) (no_ways wanted) [] all_ways (way_at wanted) [])
+val_order_at wanted = then_read (mark_at MarksOnly OpenSquare None) (λ u. ways_at wanted)
 
 -- behind PRINT
 pub data PrintStart : Type 0 where

@@ -13,10 +13,10 @@ use Rattle.mn_grammar.specs.declared.Kind.TheVariants as kinds
 use Rattle.mn_grammar.specs.declared.Limit.TheVariants as limits
 use Rattle.mn_model.specs.Problem.{Problem, listed_as, cells_of}
 use Rattle.mn_model.specs.declared.limits.TheConstants.{CELLS}
-use Rattle.mn_decls.specs.Added.{with_tuples}
-use Rattle.mn_decls.specs.Heads.{head_token, head_of}
-use Rattle.mn_decls.specs.declared.heads.Head.{Head}
-use Rattle.mn_decls.specs.declared.heads.Head.TheVariants.{End}
+use Rattle.mn_cursor.specs.Added.{with_tuples}
+use Rattle.mn_cursor.specs.Heads.{head_token, head_of}
+use Rattle.mn_cursor.specs.declared.heads.Head.{Head}
+use Rattle.mn_cursor.specs.declared.heads.Head.TheVariants.{End}
 
 -- a tuple list as it is written: its name, how many tuples it has and how long they are, and their numbers
 pub record TupleList : Type 0 where

@@ -1,8 +1,10 @@
 ghost use Rattle.std.specs.Prelude.{◌≡◌, ℕ, ◌+◌, ◌*◌, ◌<◌, ◌≤◌, ◌≤ℤ◌, pos, true, false, List, ℤ, [], ◌∷◌, None, Some, Ok, length, drop, is_some, IfOk, IfErr, IfSome, OnOk};
+ghost use Rattle.std.proofs.Common.{inl};
 ghost use Rattle.std.specs.List.{AllByRecursion};
+ghost use Rattle.std.specs.Option.{option_map};
 ghost use Rattle.mn_grammar.specs.Gives.{Gives, Stops};
 ghost use Rattle.mn_grammar.specs.Lawful.{Lawful};
-ghost use Rattle.mn_grammar.specs.Reading.{mark_at, name_at, number_at, which_either};
+ghost use Rattle.mn_grammar.specs.Reading.{mark_at, number_at, which_of};
 ghost use Rattle.mn_grammar.specs.declared.site.Site.TheVariants.{Fixed, MarksOnly};
 ghost use Rattle.mn_lexer.specs.Terminals.{word};
 ghost use Rattle.mn_model.specs.Domain.{Ascends, IsDomain, IsValue, stretch};
@@ -11,55 +13,61 @@ ghost use Rattle.mn_model.specs.Name.{IsName};
 ghost use Rattle.mn_model.specs.Problem.{Problem, aliased_as, declared_as, size_of_dims, variable_count};
 ghost use Rattle.mn_model.specs.declared.limits.TheConstants.{VARIABLES};
 ghost use Rattle.mn_model.specs.declared.variable.Kind.TheVariants.{Bounded, Discrete};
-ghost use Rattle.mn_decls.specs.Heads.{head_of};
-ghost use Rattle.mn_decls.specs.Looks.{Sees};
-ghost use Rattle.mn_decls.specs.Lists.{comma_or_at};
-ghost use Rattle.mn_decls.specs.Progress.{rest, Moves, GoesOn};
-ghost use Rattle.mn_decls.specs.Sections.{IsRead, ReadsSection};
-ghost use Rattle.mn_decls.specs.Variables.{any_number, declaration_at, domain_at, fair_end, kind_of, new_name, room_for_one, stretch_at, variables_at, variables_spec};
-ghost use Rattle.mn_decls.specs.Words.{word_value};
+ghost use Rattle.mn_cursor.specs.Heads.{head_of};
+ghost use Rattle.mn_cursor.specs.Looks.{Sees};
+ghost use Rattle.mn_cursor.specs.Lists.{comma_or_at};
+ghost use Rattle.mn_cursor.specs.Progress.{rest, Moves, GoesOn};
+ghost use Rattle.mn_cursor.specs.Sections.{IsRead, ReadsSection};
+ghost use Rattle.mn_decls.specs.Variables.{any_number, declaration_at, domain_at, entries_at, entry_token, entry_words, fair_end, room_for_one, stretch_at, variables_at, variables_spec, which_word};
+ghost use Rattle.mn_decls.specs.Words.{word_value, IsTurn};
 
+use crate::aliases::alias;
 use crate::dims::dims;
-use crate::names::{str_of, text_of};
+use crate::naming::name;
 use crate::parts::parts;
-use crate::{Cursor, Head, Seen, head_of};
+use mn_cursor::{Cursor, Head, Seen, head_of, text_of};
 use mn_grammar::{Kind, Limit, Site, Stop};
 use mn_lexer::Mark;
 use mn_model::{Domain, Instance, Refusal, SPAN, VARIABLES};
+use mn_references::{Unfit, kind_of, lesser};
 
-/// What stands where a declaration may begin.
+/// What stands where an entry may begin.
 #[derive(Clone, Copy, Debug)]
 pub enum Word {
     Kind(mn_model::Kind),
+    /// `ALIAS`.
+    Alias,
     Head(Head),
 }
 
-/// The kind of variables that a word declares.
-fn kind_of(bytes: &[u8]) -> Option<mn_model::Kind>
-    ensures { result ≡ kind_of (word bytes.now) }
+/// The word that an entry begins with.
+fn word_of(bytes: &[u8]) -> Option<Word>
+    ensures { option_map word_value result ≡ option_map inl (which_of entry_token entry_words (word bytes.now)) }
 {
     if bytes == b"BOOL".as_slice() {
-        Some(mn_model::Kind::Binary)
+        Some(Word::Kind(mn_model::Kind::Binary))
     } else if bytes == b"BOUND".as_slice() {
-        Some(mn_model::Kind::Bounded)
+        Some(Word::Kind(mn_model::Kind::Bounded))
     } else if bytes == b"SPARSEBOUND".as_slice() {
-        Some(mn_model::Kind::Sparse)
+        Some(Word::Kind(mn_model::Kind::Sparse))
     } else if bytes == b"DISCRETE".as_slice() {
-        Some(mn_model::Kind::Discrete)
+        Some(Word::Kind(mn_model::Kind::Discrete))
+    } else if bytes == b"ALIAS".as_slice() {
+        Some(Word::Alias)
     } else {
         None
     }
 }
 
-/// The word that declares variables, or the head, at the place.
-fn kind_or_head(c: &Cursor) -> Result<Word, Stop>
-    ensures sees { Sees Fixed (which_either kind_of head_of) word_value (rest c.now) result }
+/// The word that an entry begins with, or the head, at the place.
+fn word_or_head(c: &Cursor) -> Result<Word, Stop>
+    ensures sees { Sees Fixed which_word word_value (rest c.now) result }
     ensures there { IfOk result (λ _. 0 < c.now.left) }
 {
     match c.look() {
         Some(Seen::Word(bytes)) => {
-            if let Some(kind) = kind_of(bytes) {
-                return Ok(Word::Kind(kind));
+            if let Some(word) = word_of(bytes) {
+                return Ok(word);
             }
         }
         Some(Seen::Head(bytes)) => {
@@ -83,19 +91,6 @@ fn room_for_one(inst: &Instance) -> Option<Kind>
     }
 }
 
-/// The condition on a name that is declared.
-fn new_name(inst: &Instance, name: &[u8]) -> Option<Kind>
-    requires { IsName name.now }
-    ensures { result ≡ new_name inst.now name.now }
-{
-    let name = str_of(name);
-    if inst.find(name).is_some() || inst.find_alias(name).is_some() {
-        Some(Kind::Name)
-    } else {
-        None
-    }
-}
-
 /// The condition on the second number of a stretch.
 fn fair_end(limited: bool, lo: i64, hi: i64) -> Option<Kind>
     requires lo { IsValue lo }
@@ -112,7 +107,7 @@ fn fair_end(limited: bool, lo: i64, hi: i64) -> Option<Kind>
 }
 
 /// Reads any number.
-#[tactic(auto, using(crate::proofs::Looking::unseen_stops, crate::proofs::Looking::seen_stops, crate::proofs::Looking::seen_reads), unfolding(mn_grammar::specs::Reading::number_at))]
+#[tactic(auto, using(mn_cursor::proofs::Looking::unseen_stops, mn_cursor::proofs::Looking::seen_stops, mn_cursor::proofs::Looking::seen_reads), unfolding(mn_grammar::specs::Reading::number_at))]
 fn any_number(c: &mut Cursor) -> Result<i64, Stop>
     ensures moves { Moves c.old c.new }
     ensures gives { Gives (λ n. (n, rest c.new)) result (number_at any_number (rest c.old)) }
@@ -124,7 +119,7 @@ fn any_number(c: &mut Cursor) -> Result<i64, Stop>
 }
 
 /// Reads the second number of a stretch.
-#[tactic(auto, using(crate::proofs::Looking::unseen_stops, crate::proofs::Looking::seen_stops, crate::proofs::Looking::seen_reads), unfolding(mn_grammar::specs::Reading::number_at))]
+#[tactic(auto, using(mn_cursor::proofs::Looking::unseen_stops, mn_cursor::proofs::Looking::seen_stops, mn_cursor::proofs::Looking::seen_reads), unfolding(mn_grammar::specs::Reading::number_at))]
 fn end(c: &mut Cursor, limited: bool, lo: i64) -> Result<i64, Stop>
     requires { IsValue lo }
     ensures moves { Moves c.old c.new }
@@ -150,19 +145,6 @@ fn range(c: &mut Cursor, limited: bool) -> Result<Domain, Stop>
     let hi = end(c, limited, lo)?;
     c.mark(Mark::CloseCurly, None)?;
     Ok(Domain::stretch(c.alloc(), lo, hi))
-}
-
-/// Reads the name of a declaration.
-#[tactic(auto, using(crate::proofs::Looking::unseen_stops, crate::proofs::Looking::seen_stops, crate::proofs::Looking::seen_reads), unfolding(mn_grammar::specs::Reading::name_at))]
-fn name<'a>(c: &mut Cursor<'a>) -> Result<&'a [u8], Stop>
-    ensures moves { Moves c.old c.new }
-    ensures gives { Gives (λ name. (name.now, rest c.new)) result (name_at (new_name c.old.problem) (rest c.old)) }
-    ensures named { IfOk result (λ name. IsName name.now) }
-    ensures fresh { IfOk result (λ name. new_name c.old.problem name.now ≡ None) }
-{
-    let name = c.name()?;
-    c.accept(new_name(c.inst(), name))?;
-    Ok(name)
 }
 
 /// Reads what stands behind the dimensions of a declaration.
@@ -195,18 +177,49 @@ fn declaration(c: &mut Cursor, kind: mn_model::Kind) -> Result<(), Stop>
     Ok(())
 }
 
-/// Reads declarations up to the next head.
-fn declarations(c: &mut Cursor) -> Result<(), Stop>
+/// Behind an entry there are more, by what the next token breaks, or the section ends.
+enum Turn {
+    On(Option<Unfit>),
+    End,
+}
+
+/// Reads an entry, or looks at the head behind the last.
+fn entry(c: &mut Cursor, behind: Option<Unfit>) -> Result<Turn, Stop>
+    ensures goes_on { GoesOn c.old c.new }
+    ensures ok { IfOk result (IsTurn c.old.problem behind (rest c.old) c.new) }
+    ensures err { IfErr result (λ e. Stops e (entries_at (record { problem = c.old.problem; behind = behind }) (rest c.old))) }
+{
+    match word_or_head(c)? {
+        Word::Kind(kind) => {
+            c.accept(lesser(kind_of(behind), room_for_one(c.inst())))?;
+            declaration(c, kind)?;
+            Ok(Turn::On(None))
+        }
+        Word::Alias => {
+            c.accept(kind_of(behind))?;
+            Ok(Turn::On(alias(c)?))
+        }
+        Word::Head(_) => {
+            if let Some(kind) = kind_of(behind) {
+                return Err(c.refused(kind));
+            }
+            Ok(Turn::End)
+        }
+    }
+}
+
+/// Reads entries up to the next head.
+fn entries(c: &mut Cursor) -> Result<(), Stop>
     ensures goes_on { GoesOn c.old c.new }
     ensures ok { OnOk result (IsRead c.new (variables_at c.old.problem (rest c.old))) }
     ensures err { IfErr result (λ e. Stops e (variables_at c.old.problem (rest c.old))) }
 {
+    let mut behind = None;
     loop {
-        let Word::Kind(kind) = kind_or_head(c)? else {
-            return Ok(());
-        };
-        c.accept(room_for_one(c.inst()))?;
-        declaration(c, kind)?;
+        match entry(c, behind)? {
+            Turn::On(next) => behind = next,
+            Turn::End => return Ok(()),
+        }
     }
 }
 
@@ -215,7 +228,7 @@ pub fn variables(c: &mut Cursor) -> Result<(), Refusal>
     ensures goes_on { GoesOn c.old c.new }
     ensures reads { ReadsSection c.old c.new result (variables_at c.old.problem (rest c.old)) }
 {
-    match declarations(c) {
+    match entries(c) {
         Ok(()) => Ok(()),
         Err(stop) => Err(c.refusal(stop)),
     }

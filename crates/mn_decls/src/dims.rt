@@ -4,11 +4,11 @@ ghost use Rattle.mn_grammar.specs.Gives.{Gives};
 ghost use Rattle.mn_model.specs.Domain.{IsValue};
 ghost use Rattle.mn_model.specs.Problem.{size_of_dims, variable_count};
 ghost use Rattle.mn_model.specs.declared.limits.TheConstants.{VARIABLES};
-ghost use Rattle.mn_decls.specs.Progress.{rest, Moves};
+ghost use Rattle.mn_cursor.specs.Progress.{rest, Moves};
 ghost use Rattle.mn_decls.specs.Variables.{dim_at, dims_at, dims_list_at, fair_dim};
 
-use crate::Cursor;
 use crate::shape::Shape;
+use mn_cursor::Cursor;
 use mn_grammar::{Kind, Limit, Stop};
 use mn_lexer::Mark;
 use mn_model::{Dims, Instance, VARIABLES};
@@ -29,7 +29,7 @@ fn fair_dim(inst: &Instance, before: &Shape, dim: i64) -> Option<Kind>
 }
 
 /// Reads a dimension behind others.
-#[tactic(auto, using(crate::proofs::Looking::unseen_stops, crate::proofs::Looking::seen_stops, crate::proofs::Looking::seen_reads), unfolding(mn_grammar::specs::Reading::number_at))]
+#[tactic(auto, using(mn_cursor::proofs::Looking::unseen_stops, mn_cursor::proofs::Looking::seen_stops, mn_cursor::proofs::Looking::seen_reads), unfolding(mn_grammar::specs::Reading::number_at))]
 fn dim(c: &mut Cursor, before: &Shape) -> Result<u32, Stop>
     requires some { 1 ≤ size_of_dims before.now }
     requires room { variable_count c.old.problem.decls + size_of_dims before.now ≤ VARIABLES }

@@ -1,44 +1,39 @@
-//! The sections of a text that declare: variables, tuple lists, and how to search.
+//! The sections of a text that declare and that say how to search: variables, tuple lists, orders, an objective and what
+//! is printed.
 //!
-//! A `Cursor` holds a lexed text, the place in it and the instance so far. Each section's function reads the entries
-//! behind the section's head, up to the next head, and adds what they declare to the instance. It accepts exactly
-//! the entries of the language, and refuses everything else at the right token and with the right kind: its contract
-//! says that it answers what a reader of `specs/` answers, which is lawful for the language's trees.
+//! Each section's function reads the entries behind the section's head, up to the next head, and adds what they declare
+//! or ask to the instance of a `Cursor`. It accepts exactly the entries of the language, and refuses everything else at the
+//! right token and with the right kind: its contract says that it answers what a reader of `specs/` answers, which is
+//! lawful for the language's trees.
 //!
-//! The crate stands on `mn_grammar`, whose parts the readers are made of, on `mn_lexer`, and on `mn_model`, whose
-//! `Instance` it fills.
+//! The crate stands on `mn_cursor` and `mn_references`, on `mn_grammar`, whose parts the readers are made of, on
+//! `mn_lexer`, and on `mn_model`.
 #![tactic(auto)]
 
-mod aims;
-mod cursor;
+mod alias_dims;
+mod aliases;
+mod brackets;
 mod declaring;
 mod dims;
-mod entries;
-mod heads;
-mod indices;
-mod looks;
-mod lookup;
-mod names;
+mod directions;
+mod naming;
+mod ordering;
 mod parts;
-mod reading;
-mod references;
-mod refusing;
-mod scan;
+mod printing;
+mod searching;
 mod shape;
 mod tuplelists;
 mod values;
-mod want;
 
-pub use cursor::Cursor;
 pub use declaring::{variables, variables_law};
-pub use heads::{Head, head_of};
-pub use looks::{First, Seen};
-pub use names::{str_of, text_of};
-pub use reading::{reference, reference_law};
+pub use mn_cursor::{Cursor, First, Head, Seen, head_of};
+pub use mn_references::{Bounds, Unfit, Want, reference, reference_law};
+pub use searching::{search, search_law};
 pub use tuplelists::{tuplelist, tuplelist_law};
-pub use want::{Bounds, Unfit, Want};
 
 #[cfg(test)]
 mod reference_tests;
+#[cfg(test)]
+mod search_tests;
 #[cfg(test)]
 mod tests;

@@ -6,11 +6,11 @@ ghost use Rattle.mn_model.specs.Domain.{Ascends, IsValue};
 ghost use Rattle.mn_model.specs.Lawful.{SuitsKind};
 ghost use Rattle.mn_model.specs.declared.limits.TheConstants.{SPAN};
 ghost use Rattle.mn_model.specs.declared.variable.Kind.TheVariants.{Sparse};
-ghost use Rattle.mn_decls.specs.Progress.{rest, Moves};
+ghost use Rattle.mn_cursor.specs.Progress.{rest, Moves};
 ghost use Rattle.mn_decls.specs.Variables.{fair_first, fair_last, part_at, parts_at, parts_list_at, with_range};
 
-use crate::Cursor;
 use crate::values::Values;
+use mn_cursor::Cursor;
 use mn_grammar::{Kind, Limit, Stop};
 use mn_lexer::Mark;
 use mn_model::{Domain, SPAN};
@@ -45,7 +45,7 @@ fn fair_last(values: &Values, first: i64, last: i64) -> Option<Kind>
 }
 
 /// Reads the first number of a part.
-#[tactic(auto, using(crate::proofs::Looking::unseen_stops, crate::proofs::Looking::seen_stops, crate::proofs::Looking::seen_reads), unfolding(mn_grammar::specs::Reading::number_at))]
+#[tactic(auto, using(mn_cursor::proofs::Looking::unseen_stops, mn_cursor::proofs::Looking::seen_stops, mn_cursor::proofs::Looking::seen_reads), unfolding(mn_grammar::specs::Reading::number_at))]
 fn first(c: &mut Cursor, values: &Values) -> Result<i64, Stop>
     requires { length values.now ≤ SPAN }
     ensures moves { Moves c.old c.new }
@@ -59,7 +59,7 @@ fn first(c: &mut Cursor, values: &Values) -> Result<i64, Stop>
 }
 
 /// Reads the second number of a part.
-#[tactic(auto, using(crate::proofs::Looking::unseen_stops, crate::proofs::Looking::seen_stops, crate::proofs::Looking::seen_reads), unfolding(mn_grammar::specs::Reading::number_at))]
+#[tactic(auto, using(mn_cursor::proofs::Looking::unseen_stops, mn_cursor::proofs::Looking::seen_stops, mn_cursor::proofs::Looking::seen_reads), unfolding(mn_grammar::specs::Reading::number_at))]
 fn last(c: &mut Cursor, values: &Values, first: i64) -> Result<i64, Stop>
     requires few { length values.now ≤ SPAN }
     requires first { IsValue first }

@@ -5,7 +5,7 @@ use mn_model::{Refusal, Which};
 use std::alloc::Global;
 
 // A cursor behind the declarations of a text and the head that ends them.
-fn declared<'a>(alloc: Global, text: &'a [u8]) -> Result<Cursor<'a>, Refusal> {
+pub fn declared<'a>(alloc: Global, text: &'a [u8]) -> Result<Cursor<'a>, Refusal> {
     if text.len() > 1000 {
         return Err(Refusal::NoMemory);
     }

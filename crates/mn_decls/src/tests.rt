@@ -2,7 +2,7 @@
 use crate::{Cursor, tuplelist, tuplelist_law, variables, variables_law};
 use mn_lexer::tokens;
 use mn_model::{Refusal, Which};
-use std::alloc::Global;
+use std::alloc::{AllocError, Global};
 
 // How many tuple lists and cells the entries of a section declare.
 fn listed(alloc: Global, text: &[u8]) -> Result<(usize, u64), Refusal> {
@@ -123,6 +123,129 @@ fn variables_are_declared(rt: HostRuntime) {
             wanted,
             "in {text:?}"
         );
+    }
+}
+
+// How many aliases the entries of a section declare, and to how many variables the last leads; and the number of the
+// last of these.
+fn aliased(alloc: Global, text: &[u8]) -> Result<(usize, usize, u32), Refusal> {
+    if text.len() > 10000 {
+        return Err(Refusal::NoMemory);
+    }
+    let lexed = tokens(alloc, text)?;
+    let mut c = Cursor::new(alloc, lexed, text)?;
+    variables(&mut c)?;
+    let aliases = c.inst().aliases();
+    match aliases {
+        [] => Ok((0, 0, 0)),
+        [.., last] => {
+            let vars = last.vars.as_slice();
+            let number = match vars {
+                [] => 0,
+                [.., v] => v.number(),
+            };
+            Ok((aliases.len(), vars.len(), number))
+        }
+    }
+}
+
+#[test]
+fn aliases_are_declared(rt: HostRuntime) {
+    for (text, wanted) in [
+        ("BOOL x **EOF**", Ok((0, 0, 0))),
+        ("BOOL x BOOL q[2] ALIAS a = q[1] **EOF**", Ok((1, 1, 2))),
+        (
+            "BOOL x BOOL q[2] ALIAS c[2,2] = [[x,q[0]],[q[1],x]] BOOL y ALIAS d[2] = [y,c[1,0]] **EOF**",
+            Ok((2, 2, 2)),
+        ),
+        ("BOOL v[256,256] ALIAS a = v[0,0] **EOF**", Ok((1, 1, 0))),
+        // names: the alias's own before it is whole, and one that is declared
+        (
+            "BOOL x BOOL q[2] ALIAS a = a **EOF**",
+            Err(Refusal::Name(27)),
+        ),
+        (
+            "BOOL x BOOL q[2] ALIAS q = x **EOF**",
+            Err(Refusal::Name(23)),
+        ),
+        // dimensions: below 1; there is no limit on them
+        ("BOOL x BOOL q[2] ALIAS a[1,0]", Err(Refusal::Shape(27))),
+        (
+            "BOOL x BOOL q[2] ALIAS a[1000000000,1000000000,1000000000] = x",
+            Err(Refusal::Shape(61)),
+        ),
+        // the brackets leave the shape
+        ("BOOL x BOOL q[2] ALIAS a[2] = y", Err(Refusal::Name(30))),
+        ("BOOL x BOOL q[2] ALIAS a[2] = [[x", Err(Refusal::Shape(31))),
+        ("BOOL x BOOL q[2] ALIAS a[1] = [x,", Err(Refusal::Shape(32))),
+        ("BOOL x BOOL q[2] ALIAS a[2] = [x]", Err(Refusal::Shape(32))),
+        // a whole matrix where one variable is wanted is refused by the token behind it
+        (
+            "BOOL x BOOL q[1] ALIAS c[2] = [q,x]",
+            Err(Refusal::Shape(32)),
+        ),
+        (
+            "BOOL x BOOL q[2] ALIAS a = q **EOF**",
+            Err(Refusal::Shape(29)),
+        ),
+        (
+            "BOOL x BOOL q[2] ALIAS a = q ALIAS",
+            Err(Refusal::Shape(29)),
+        ),
+        (
+            "BOOL x BOOL q[2] ALIAS a = q BOOL y",
+            Err(Refusal::Shape(29)),
+        ),
+        (
+            "BOOL v[256,256] ALIAS a = v BOOL y",
+            Err(Refusal::Limit(Which::Variables, 28)),
+        ),
+        (
+            "BOOL x BOOL q[2] ALIAS a = q y",
+            Err(Refusal::Unsupported(29)),
+        ),
+        ("BOOL x BOOL q[2] ALIAS a = q =", Err(Refusal::Syntax(29))),
+        ("BOOL x BOOL q[2] ALIAS a = q", Err(Refusal::Syntax(28))),
+        // indices
+        ("BOOL x BOOL q[2] ALIAS a = q[_]", Err(Refusal::Shape(29))),
+        ("BOOL x BOOL q[2] ALIAS a = q[2]", Err(Refusal::Shape(29))),
+        // what the grammar doesn't have
+        ("BOOL x BOOL q[2] ALIAS a = [x]", Err(Refusal::Syntax(27))),
+        (
+            "BOOL x BOOL q[2] ALIAS a[1] = [3]",
+            Err(Refusal::Syntax(31)),
+        ),
+    ] {
+        assert_eq!(rt; aliased(rt.alloc(), text.as_bytes()), wanted, "in {text:?}");
+    }
+}
+
+// Adds so many of these bytes.
+fn push_times(text: &mut Vec<u8>, bytes: &[u8], times: usize) -> Result<(), AllocError> {
+    for _ in 0..times {
+        text.extend_from_slice(bytes)?;
+    }
+    Ok(())
+}
+
+// A text with an alias of so many dimensions of 1, and one more.
+fn deep(alloc: Global, depth: usize) -> Result<Vec<u8>, AllocError> {
+    let mut text = Vec::new(alloc);
+    text.extend_from_slice(b"BOOL x ALIAS a[1".as_slice())?;
+    push_times(&mut text, b",1".as_slice(), depth)?;
+    text.extend_from_slice(b"] = [".as_slice())?;
+    push_times(&mut text, b"[".as_slice(), depth)?;
+    text.extend_from_slice(b"x]".as_slice())?;
+    push_times(&mut text, b"]".as_slice(), depth)?;
+    text.extend_from_slice(b" **EOF**".as_slice())?;
+    Ok(text)
+}
+
+#[test]
+fn brackets_may_be_deep(rt: HostRuntime) {
+    match deep(rt.alloc(), 1000) {
+        Ok(text) => assert_eq!(rt; aliased(rt.alloc(), text.as_slice()), Ok((1, 1, 0))),
+        Err(_) => assert!(rt; false),
     }
 }
 

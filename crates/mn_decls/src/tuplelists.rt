@@ -11,16 +11,14 @@ ghost use Rattle.mn_model.specs.Lawful.{IsLawful};
 ghost use Rattle.mn_model.specs.Name.{IsName};
 ghost use Rattle.mn_model.specs.Problem.{Problem, listed_as, cells_of};
 ghost use Rattle.mn_model.specs.declared.limits.TheConstants.{CELLS};
-ghost use Rattle.mn_decls.specs.Added.{with_tuples};
-ghost use Rattle.mn_decls.specs.Heads.{head_of};
-ghost use Rattle.mn_decls.specs.Looks.{Sees, first_value, IsFirstName};
-ghost use Rattle.mn_decls.specs.Progress.{rest, Moves, GoesOn};
-ghost use Rattle.mn_decls.specs.Sections.{IsRead, ReadsSection};
+ghost use Rattle.mn_cursor.specs.Added.{with_tuples};
+ghost use Rattle.mn_cursor.specs.Heads.{head_of};
+ghost use Rattle.mn_cursor.specs.Looks.{Sees, first_value, IsFirstName};
+ghost use Rattle.mn_cursor.specs.Progress.{rest, Moves, GoesOn};
+ghost use Rattle.mn_cursor.specs.Sections.{IsRead, ReadsSection};
 ghost use Rattle.mn_decls.specs.TupleLists.{first_at, judge_first, fair_count, fair_number, fair_size, is_past_cells, list_at, lists_at, new_list, numbers_at, tuplelist_at, tuplelist_spec, whole};
 
-use crate::Cursor;
-use crate::looks::First;
-use crate::names::{str_of, text_of};
+use mn_cursor::{Cursor, First, str_of, text_of};
 use mn_grammar::{Kind, Limit, Site, Stop};
 use mn_model::{CELLS, Instance, Ints, Refusal};
 
@@ -62,7 +60,7 @@ fn fair_size(inst: &Instance, count: u64, size: i64) -> Option<Kind>
 }
 
 /// Reads the count of tuples.
-#[tactic(auto, using(crate::proofs::Looking::unseen_stops, crate::proofs::Looking::seen_stops, crate::proofs::Looking::seen_reads), unfolding(mn_grammar::specs::Reading::number_at))]
+#[tactic(auto, using(mn_cursor::proofs::Looking::unseen_stops, mn_cursor::proofs::Looking::seen_stops, mn_cursor::proofs::Looking::seen_reads), unfolding(mn_grammar::specs::Reading::number_at))]
 fn count(c: &mut Cursor) -> Result<u64, Stop>
     ensures moves { Moves c.old c.new }
     ensures gives { Gives (λ n. (pos n, rest c.new)) result (number_at (fair_count c.old.problem) (rest c.old)) }
@@ -75,7 +73,7 @@ fn count(c: &mut Cursor) -> Result<u64, Stop>
 }
 
 /// Reads the length of tuples.
-#[tactic(auto, using(crate::proofs::Looking::unseen_stops, crate::proofs::Looking::seen_stops, crate::proofs::Looking::seen_reads), unfolding(mn_grammar::specs::Reading::number_at))]
+#[tactic(auto, using(mn_cursor::proofs::Looking::unseen_stops, mn_cursor::proofs::Looking::seen_stops, mn_cursor::proofs::Looking::seen_reads), unfolding(mn_grammar::specs::Reading::number_at))]
 fn size(c: &mut Cursor, count: u64) -> Result<u64, Stop>
     requires { count ≤ 1000000000 }
     ensures moves { Moves c.old c.new }

@@ -2,8 +2,8 @@ use Rattle.std.proofs.Common.{◌≡◌, Ok, sym, ap, subst, ◌∙◌}
 use Rattle.std.proofs.lemmas.Result.{err_from_is_err_and}
 use Rattle.mn_grammar.specs.Gives.{Stops}
 use Rattle.mn_model.specs.Problem.{Problem}
-use Rattle.mn_decls.specs.Added.{with_declaration}
-use Rattle.mn_decls.specs.Progress.{Progress, rest}
+use Rattle.mn_cursor.specs.Added.{with_declaration}
+use Rattle.mn_cursor.specs.Progress.{Progress, rest}
 use Rattle.mn_decls.specs.Variables.{dims_at}
 use Rattle.mn_decls.proofs.VariableSteps.{name_stops, dims_stop, domain_stops, declaration_reads}
 use Rattle.mn_decls.proofs.declaring.declaration.Goals as goal

@@ -5,7 +5,7 @@ use Rattle.mn_grammar.specs.Gives.{Stops}
 use Rattle.mn_grammar.specs.Reading.{number_at}
 use Rattle.mn_model.specs.Domain.{stretch}
 use Rattle.mn_model.specs.declared.limits.TheConstants.{SPAN}
-use Rattle.mn_decls.specs.Progress.{rest}
+use Rattle.mn_cursor.specs.Progress.{rest}
 use Rattle.mn_decls.specs.Variables.{fair_end}
 use Rattle.mn_decls.proofs.VariableSteps.{open_stops, lo_stops, dots_stop, hi_stops, close_stops, stretch_reads, is_short}
 use Rattle.mn_decls.proofs.declaring.range.Goals as goal

@@ -1,9 +1,9 @@
 use Rattle.std.proofs.Common.{rules, ◌≡◌, Ok, sym, ap, ◌∙◌}
 use Rattle.std.proofs.lemmas.Result.{err_from_is_err_and}
-use Rattle.mn_decls.specs.Progress.{rest}
+use Rattle.mn_cursor.specs.Progress.{rest}
 use Rattle.mn_model.specs.Problem.{Problem}
 use Rattle.mn_decls.specs.Variables.{dims_list_at}
-use Rattle.mn_decls.proofs.Turning.{gives_same}
+use Rattle.mn_cursor.proofs.Turning.{gives_same}
 use Rattle.mn_decls.proofs.VariableSteps.{no_dims, square_stops, dims_same}
 use Rattle.mn_decls.proofs.dims.dims.Goals as goal
 

@@ -4,10 +4,10 @@ use Rattle.std.specs.List.{AllByRecursion}
 use Rattle.mn_grammar.specs.Gives.{Stops}
 use Rattle.mn_model.specs.Problem.{Problem, size_of_dims, variable_count}
 use Rattle.mn_model.specs.declared.limits.TheConstants.{VARIABLES}
-use Rattle.mn_decls.specs.Progress.{rest}
+use Rattle.mn_cursor.specs.Progress.{rest}
 use Rattle.mn_decls.specs.Variables.{dim_at, dims_list_at}
 use Rattle.mn_decls.proofs.Ranges.{size_more, all_dims, some_places}
-use Rattle.mn_decls.proofs.Turning.{stops_same}
+use Rattle.mn_cursor.proofs.Turning.{stops_same}
 use Rattle.mn_decls.proofs.VariableSteps.{dims_from, dim_stops, dim_comma_stops, dim_goes_on, dim_ends}
 use Rattle.mn_decls.proofs.dims.dims_list.Goals as goal
 

@@ -2,7 +2,7 @@ use Rattle.std.proofs.Common.{◌≡◌, ◌+◌, ◌≤◌, length}
 use Rattle.std.specs.List.{AllByRecursion}
 use Rattle.mn_model.specs.Problem.{size_of_dims, variable_count}
 use Rattle.mn_model.specs.declared.limits.TheConstants.{VARIABLES}
-use Rattle.mn_decls.specs.Progress.{rest, Moves}
+use Rattle.mn_cursor.specs.Progress.{rest, Moves}
 use Rattle.mn_decls.specs.Variables.{dims_list_at}
 use Rattle.mn_decls.proofs.VariableSteps.{dims_from}
 use Rattle.mn_decls.proofs.dims.dims_list.Given as goal

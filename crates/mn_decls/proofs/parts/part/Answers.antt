@@ -3,7 +3,7 @@ use Rattle.std.proofs.lemmas.Int.{to_z-of_z}
 use Rattle.std.proofs.lemmas.Result.{err_from_is_err_and}
 use Rattle.mn_grammar.specs.Gives.{Stops}
 use Rattle.mn_grammar.specs.Reading.{number_at}
-use Rattle.mn_decls.specs.Progress.{rest}
+use Rattle.mn_cursor.specs.Progress.{rest}
 use Rattle.mn_decls.specs.Variables.{fair_last}
 use Rattle.mn_decls.proofs.VariableSteps.{first_stops, alone, part_dots_stop, last_stops, range_reads}
 use Rattle.mn_decls.proofs.parts.part.Goals as goal

@@ -1,7 +1,7 @@
 use Rattle.std.proofs.Common.{rules, Ok, sym, ap, ◌∙◌}
 use Rattle.std.proofs.lemmas.Result.{err_from_is_err_and}
-use Rattle.mn_decls.specs.Progress.{rest}
-use Rattle.mn_decls.proofs.Turning.{stops_same}
+use Rattle.mn_cursor.specs.Progress.{rest}
+use Rattle.mn_cursor.proofs.Turning.{stops_same}
 use Rattle.mn_decls.proofs.VariableSteps.{curly_stops, empty_stops, parts_same}
 use Rattle.mn_decls.proofs.parts.parts.Goals as goal
 

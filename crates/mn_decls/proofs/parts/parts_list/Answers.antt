@@ -2,10 +2,10 @@ use Rattle.std.proofs.Common.{rules, ◌≡◌, ◌≤◌, length, Ok, FitsSigne
 use Rattle.std.proofs.lemmas.Int.{to_z-of_z}
 use Rattle.std.proofs.lemmas.Result.{err_from_is_err_and}
 use Rattle.mn_model.specs.declared.limits.TheConstants.{SPAN}
-use Rattle.mn_decls.specs.Progress.{rest}
+use Rattle.mn_cursor.specs.Progress.{rest}
 use Rattle.mn_decls.specs.Variables.{parts_list_at, with_range}
 use Rattle.mn_decls.proofs.Ranges.{range_some}
-use Rattle.mn_decls.proofs.Turning.{stops_same}
+use Rattle.mn_cursor.proofs.Turning.{stops_same}
 use Rattle.mn_decls.proofs.VariableSteps.{parts_from, part_stops, part_comma_stops, part_goes_on, part_ends}
 use Rattle.mn_decls.proofs.parts.parts_list.Goals as goal
 

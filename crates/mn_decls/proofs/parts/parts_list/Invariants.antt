@@ -1,6 +1,6 @@
 use Rattle.std.proofs.Common.{◌≡◌, ◌≤◌, length}
 use Rattle.mn_model.specs.declared.limits.TheConstants.{SPAN}
-use Rattle.mn_decls.specs.Progress.{rest, Moves}
+use Rattle.mn_cursor.specs.Progress.{rest, Moves}
 use Rattle.mn_decls.specs.Variables.{parts_list_at}
 use Rattle.mn_decls.proofs.VariableSteps.{parts_from}
 use Rattle.mn_decls.proofs.parts.parts_list.Given as goal

@@ -1,8 +1,8 @@
 use Rattle.std.proofs.Common.{◌≡◌, true, Some, subst}
 use Rattle.mn_model.specs.Problem.{Problem}
-use Rattle.mn_decls.specs.Added.{with_tuples}
-use Rattle.mn_decls.specs.Looks.{first_value}
-use Rattle.mn_decls.specs.Progress.{rest}
+use Rattle.mn_cursor.specs.Added.{with_tuples}
+use Rattle.mn_cursor.specs.Looks.{first_value}
+use Rattle.mn_cursor.specs.Progress.{rest}
 use Rattle.mn_decls.specs.TupleLists.{judge_first}
 use Rattle.mn_decls.proofs.TupleListSteps.{lacking_at, lacking_unseen}
 use Rattle.mn_decls.proofs.tuplelists.lacking.Goals as goal

@@ -3,8 +3,8 @@ use Rattle.std.proofs.lemmas.Result.{err_from_is_err_and}
 use Rattle.mn_grammar.specs.Gives.{Stops}
 use Rattle.mn_grammar.specs.Reading.{number_at}
 use Rattle.mn_model.specs.Problem.{Problem}
-use Rattle.mn_decls.specs.Added.{with_tuples}
-use Rattle.mn_decls.specs.Progress.{Progress, rest}
+use Rattle.mn_cursor.specs.Added.{with_tuples}
+use Rattle.mn_cursor.specs.Progress.{Progress, rest}
 use Rattle.mn_decls.specs.TupleLists.{fair_size, first_at, whole}
 use Rattle.mn_decls.proofs.TupleListSteps.{count_stops, size_stops, numbers_stop, lacking_stops, whole_read, is_lawful, test_true, test_false}
 use Rattle.mn_decls.proofs.tuplelists.list.Goals as goal

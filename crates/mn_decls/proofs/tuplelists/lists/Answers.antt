@@ -3,9 +3,9 @@ use Rattle.std.proofs.lemmas.Result.{err_from_is_err_and}
 use Rattle.mn_grammar.specs.Gives.{Stops}
 use Rattle.mn_grammar.specs.Reading.{go_on}
 use Rattle.mn_model.specs.Problem.{Problem}
-use Rattle.mn_decls.specs.Progress.{rest}
+use Rattle.mn_cursor.specs.Progress.{rest}
 use Rattle.mn_decls.specs.TupleLists.{list_at, lists_at, whole}
-use Rattle.mn_decls.proofs.Turning.{stops_same}
+use Rattle.mn_cursor.proofs.Turning.{stops_same}
 use Rattle.mn_decls.proofs.TupleListSteps.{unseen_list, name_stops, list_stops, list_goes_on, lists_end}
 use Rattle.mn_decls.proofs.tuplelists.lists.Goals as goal
 

@@ -1,5 +1,5 @@
 use Rattle.std.proofs.Common.{◌≡◌, length}
-use Rattle.mn_decls.specs.Progress.{rest, GoesOn}
+use Rattle.mn_cursor.specs.Progress.{rest, GoesOn}
 use Rattle.mn_decls.specs.TupleLists.{tuplelist_at}
 use Rattle.mn_decls.proofs.tuplelists.lists.Given as goal
 

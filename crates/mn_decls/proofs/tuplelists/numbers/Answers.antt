@@ -1,7 +1,7 @@
 use Rattle.std.proofs.Common.{rules, pos, sym, ◌∙◌}
 use Rattle.std.proofs.lemmas.Result.{err_from_is_err_and}
-use Rattle.mn_decls.specs.Progress.{rest}
-use Rattle.mn_decls.proofs.Turning.{stops_same}
+use Rattle.mn_cursor.specs.Progress.{rest}
+use Rattle.mn_cursor.proofs.Turning.{stops_same}
 use Rattle.mn_decls.proofs.TupleListSteps.{number_turned, number_stops}
 use Rattle.mn_decls.proofs.TupleListLaw.{numbers_end}
 use Rattle.mn_decls.proofs.tuplelists.numbers.Goals as goal

@@ -1,7 +1,7 @@
 use Rattle.std.proofs.Common.{◌≡◌, ◌≤◌, pos, [], length}
 use Rattle.std.specs.List.{AllByRecursion}
 use Rattle.mn_model.specs.Domain.{IsValue}
-use Rattle.mn_decls.specs.Progress.{rest, Moves}
+use Rattle.mn_cursor.specs.Progress.{rest, Moves}
 use Rattle.mn_decls.specs.TupleLists.{numbers_at}
 use Rattle.mn_decls.proofs.tuplelists.numbers.Given as goal
 

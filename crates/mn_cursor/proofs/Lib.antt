@@ -1,0 +1,5 @@
+pub mod Reached
+pub mod Looking
+pub mod Fair
+pub mod Turning
+pub mod ListSteps

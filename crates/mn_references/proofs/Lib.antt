@@ -1,0 +1,15 @@
+pub mod Referable
+pub mod Listable
+pub mod LookingUp
+pub mod Indexing
+pub mod Bits
+pub mod Ending
+pub mod Stepping
+pub mod Followable
+pub mod Placeable
+pub mod Unbroken
+pub mod LawfulReferences
+pub mod LawfulVectors
+pub mod FairTokens
+pub mod ListTurns
+pub mod Rowing

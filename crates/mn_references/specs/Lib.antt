@@ -1,0 +1,10 @@
+pub mod Conditions
+pub mod References
+pub mod Entries
+pub mod Referring
+pub mod Lookups
+pub mod Aims
+pub mod Placing
+pub mod Wanted
+pub mod Listing
+pub mod Rowing
