@@ -28,11 +28,11 @@ use Rattle.mn_grammar.specs.declared.site.Site.TheVariants.{Free, MarksOnly}
 use Rattle.mn_grammar.specs.declared.Kind.{Kind}
 use Rattle.mn_grammar.specs.declared.Kind.TheVariants as kinds
 use Rattle.mn_grammar.specs.declared.Limit.TheVariants as limits
-use Rattle.mn_decls.specs.References.{Sub}
-use Rattle.mn_decls.specs.Entries.{Entry, of_ref, of_number, of_not, a_term, whole, listed}
-use Rattle.mn_decls.specs.Referring.{entry_at, vector_at}
-use Rattle.mn_decls.proofs.Referable.{as_kind_kinds, lesser_kinds, blocks_subs, some_name}
-use Rattle.mn_decls.proofs.Listable.{a_term_place, blocks_entry, entry_spec, entry_law, entry_marks, entry_no_comma, entry_solid, subs_marks, subs_no_comma, blocks_vector, vector_spec, vector_law}
+use Rattle.mn_references.specs.References.{Sub}
+use Rattle.mn_references.specs.Entries.{Entry, of_ref, of_number, of_not, a_term, whole, listed}
+use Rattle.mn_references.specs.Referring.{entry_at, vector_at}
+use Rattle.mn_references.proofs.Referable.{as_kind_kinds, lesser_kinds, blocks_subs, some_name}
+use Rattle.mn_references.proofs.Listable.{a_term_place, blocks_entry, entry_spec, entry_law, entry_marks, entry_no_comma, entry_solid, subs_marks, subs_no_comma, blocks_vector, vector_spec, vector_law}
 use Rattle.mn_language.specs.Arguments.{Value, of_terms, placed_value, of_numbers, of_tuples, behind_value, behind_last, length_wanted, vector_wanted, numbers_wanted, Wanted, exactly, is_full, at_one, at_another, at_close, number_judge, with_number, Table, named, here, at_tuple, tuple_ends, tuple_judge, with_tuple, at_list, list_place, spell_table, breaks_table, value_table, Written, spell_argument, spell_arguments, behind_argument, arguments}
 use Rattle.mn_language.specs.Constraints.{meaning}
 use Rattle.mn_language.specs.Constructing.{no_break, numbers_at, range_at, tuple_at, TableStart, which_table, at_table, written_here, behind_table, table_at, one_number, argument_at, leaf_at}
@@ -141,7 +141,7 @@ range_law =
         a_number behind_law
 
 -- 3. Tables
-abbrev tuple_spec : ℕ → ℕ → List ℤ → Spec (Items ℤ) (List ℤ)
+abbrev pub tuple_spec : ℕ → ℕ → List ℤ → Spec (Items ℤ) (List ℤ)
 tuple_spec used n cells = mark_then Less (at_tuple used n cells) (items_spec Greater (number_judge (exactly n)) no_more Free (pos 0) with_number [])
 
 in_angles : (w : Wanted) → Entries Greater (number_judge w) no_more Free (pos 0)
@@ -155,7 +155,7 @@ in_angles w = record {
   close_kinds = λ before z kind e. close_kinds w (length (before ++ z ∷ [])) kind e;
 }
 
-tuple_law : (used n : ℕ) (cells : List ℤ) → Lawful (tuple_spec used n cells) (tuple_at used n cells)
+pub tuple_law : (used n : ℕ) (cells : List ℤ) → Lawful (tuple_spec used n cells) (tuple_at used n cells)
 unfolding tuple_at
 tuple_law used n cells =
     let numbers = Lawful-items Greater (number_judge (exactly n)) no_more Free (pos 0) with_number (in_angles (exactly n)) (λ before. number_at (at_one (exactly n) before)) (one_law (exactly n)) [] in
@@ -179,7 +179,7 @@ are_tuples used n = record {
 tuple_not_shut : (l : List Terminal) (t : Terminal) (q : List Terminal) → mark Less ∷ l ≡ t ∷ q → is_the_mark CloseCurly t ≡ false
 tuple_not_shut l t q e = let same : mark Less ≡ t = cc in ap (is_the_mark CloseCurly) (sym same)
 
-tuples_law : (used n : ℕ) → Lawful (tuples_spec used n) (maybe_at CloseCurly tuple_ends None [] with_tuple (tuple_at used n) [])
+pub tuples_law : (used n : ℕ) → Lawful (tuples_spec used n) (maybe_at CloseCurly tuple_ends None [] with_tuple (tuple_at used n) [])
 tuples_law used n =
     Lawful-maybe CloseCurly (tuple_judge used n) no_more MarksOnly (final (pos 0)) None [] with_tuple
     (are_tuples used n) (λ x t q e. tuple_not_shut _ t q e) (λ kind e. cc) [] (tuple_at used n) (tuple_law used n)

@@ -23,11 +23,11 @@ use Rattle.mn_grammar.specs.declared.site.Site.TheVariants.{Fixed, MarksOnly}
 use Rattle.mn_grammar.specs.declared.Kind.{Kind}
 use Rattle.mn_grammar.specs.declared.Kind.TheVariants as kinds
 use Rattle.mn_grammar.specs.declared.Limit.TheVariants as limits
-use Rattle.mn_decls.specs.Conditions.{lesser, as_kind}
-use Rattle.mn_decls.specs.Entries.{Entry, a_term, Placed, value_entry}
-use Rattle.mn_decls.specs.Referring.{entry_at}
-use Rattle.mn_decls.proofs.Referable.{as_kind_kinds, lesser_kinds}
-use Rattle.mn_decls.proofs.Listable.{a_term_place, blocks_entry, entry_spec, entry_law, entry_marks, entry_solid}
+use Rattle.mn_references.specs.Conditions.{lesser, as_kind}
+use Rattle.mn_references.specs.Entries.{Entry, a_term, Placed, value_entry}
+use Rattle.mn_references.specs.Referring.{entry_at}
+use Rattle.mn_references.proofs.Referable.{as_kind_kinds, lesser_kinds}
+use Rattle.mn_references.proofs.Listable.{a_term_place, blocks_entry, entry_spec, entry_law, entry_marks, entry_solid}
 use Rattle.mn_language.specs.Arguments.{Written, term_of}
 use Rattle.mn_language.specs.Constraints.{Constraint, simple, gathers_none, gathers, ties, Children, one_child, child_and, spell_constraint, spell_children, Before, inside, cells_behind, at_depth, at_inside, at_form, value_constraint, value_children, breaks_constraint, breaks_children, gathered, tied}
 use Rattle.mn_language.specs.Constructing.{child_ends, with_child, gather_at, tie_at, behind_form, form_at, depth_inside, constraint_at}

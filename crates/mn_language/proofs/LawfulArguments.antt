@@ -20,13 +20,13 @@ use Rattle.mn_grammar.specs.Lists.{Items, final, also, spell_items, breaks_items
 use Rattle.mn_grammar.specs.Rows.{Arguments, breaks_more, values_more, breaks_row, values_row}
 use Rattle.mn_grammar.specs.declared.Kind.TheVariants.{Shape, Limit}
 use Rattle.mn_grammar.specs.declared.Limit.TheVariants.{Cells}
-use Rattle.mn_decls.specs.Entries.{a_term, value_entry, Placed}
+use Rattle.mn_references.specs.Entries.{a_term, value_entry, Placed}
 use Rattle.mn_language.specs.Arguments.{Value, length_of, length_wanted, behind_value, behind_last, terms_in, numbers_in, number_in, tuples_in, term_of, vector_wanted, numbers_wanted, Wanted, exactly, is_full, is_short, is_odd, at_one, at_another, at_close, number_judge, with_number, spell_number, spell_numbers, breaks_numbers, value_numbers, Table, named, here, spell_tuple, at_tuple, value_tuple, tuple_judge, with_tuple, at_list, list_place, spell_table, breaks_table, value_table, Written, spell_argument, breaks_argument, value_argument, spell_arguments, arguments}
 use Rattle.mn_language.specs.declared.forms.Argument.{Argument}
 use Rattle.mn_language.specs.declared.forms.Argument.TheVariants as takes
 use Rattle.mn_language.specs.declared.forms.Places.{Places}
-use Rattle.mn_language.proofs.Unbroken.{on_kept, token_kept, part_kept, behind_kept, when_kept, as_kind_kept, not_false, not_less, not_at_most, all_append, all_front, all_back}
-use Rattle.mn_language.proofs.LawfulVectors.{IsFairToken, AreFair, IsTerm, IsVector, IsOne, entry_comes, term_one, vector_good}
+use Rattle.mn_references.proofs.Unbroken.{on_kept, token_kept, part_kept, behind_kept, when_kept, as_kind_kept, not_false, not_less, not_at_most, all_append, all_front, all_back}
+use Rattle.mn_references.proofs.LawfulVectors.{IsFairToken, AreFair, IsTerm, IsVector, IsOne, entry_comes, term_one, vector_good}
 
 -- 1. Lists of numbers
 pub record IsNumbers (w : Wanted) (zs : List ℤ) : Type 0 where

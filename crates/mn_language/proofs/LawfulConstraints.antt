@@ -20,22 +20,25 @@ use Rattle.mn_grammar.specs.Rows.{breaks_row}
 use Rattle.mn_grammar.specs.Lawful.{Said}
 use Rattle.mn_grammar.specs.declared.Kind.TheVariants.{Limit}
 use Rattle.mn_grammar.specs.declared.Limit.TheVariants.{Constraints as OfConstraints}
-use Rattle.mn_decls.specs.Conditions.{as_kind}
-use Rattle.mn_decls.specs.Entries.{spell_entry, breaks_entry, value_entry, a_term, Placed}
+use Rattle.mn_references.specs.Conditions.{as_kind}
+use Rattle.mn_references.specs.Entries.{spell_entry, breaks_entry, value_entry, a_term, Placed}
 use Rattle.mn_language.specs.Arguments.{term_of, arguments}
 use Rattle.mn_language.specs.Constraints.{meaning, gathered, tied, Constraint, simple, gathers_none, gathers, ties, Children, one_child, child_and, spell_constraint, spell_children, Before, before_all, inside, cells_behind, at_depth, at_inside, at_form, value_constraint, value_children, breaks_constraint, breaks_children}
-use Rattle.mn_language.specs.Constructing.{constraint_at}
+use Rattle.mn_language.specs.Constructing.{constraint_at, leaf_at}
 use Rattle.mn_language.specs.Forms.{form_line}
 use Rattle.mn_language.specs.declared.forms.Form.{Form}
 use Rattle.mn_language.specs.declared.forms.Form.TheVariants.{Leaf as of_leaf, Gather as of_gather, Tie as of_tie}
+use Rattle.mn_language.specs.declared.forms.Argument.{Argument}
 use Rattle.mn_language.specs.declared.forms.Gather.{Gather}
 use Rattle.mn_language.specs.declared.forms.Gather.TheVariants.{Or, And}
+use Rattle.mn_language.specs.declared.forms.Leaf.{Leaf}
 use Rattle.mn_language.specs.declared.forms.Tie.{Tie}
 use Rattle.mn_language.specs.declared.forms.Tie.TheVariants.{Reify, Reifyimply}
-use Rattle.mn_language.proofs.Unbroken.{on_kept, token_kept, part_kept, behind_kept, when_kept, as_kind_kept, lesser_kept, not_at_most, all_append, all_front, all_back}
-use Rattle.mn_language.proofs.LawfulVectors.{IsFairToken, AreFair, IsTerm, IsBitTerm, IsOne, entry_comes, term_one}
+use Rattle.mn_references.proofs.Unbroken.{on_kept, token_kept, part_kept, behind_kept, when_kept, as_kind_kept, lesser_kept, not_at_most, all_append, all_front, all_back}
+use Rattle.mn_references.proofs.LawfulVectors.{IsFairToken, AreFair, IsTerm, IsBitTerm, IsOne, entry_comes, term_one}
 use Rattle.mn_language.proofs.LawfulArguments.{row_fits}
 use Rattle.mn_language.proofs.LawfulForms.{IsKept, leaf_kept}
+use Rattle.mn_language.proofs.ArgumentLaws.{leaf_spec, leaf_law, spells_row}
 use Rattle.mn_language.proofs.ConstraintLaws.{constraint_spec, constraint_law}
 
 -- 1. Forms around others are lawful where those are
@@ -66,7 +69,7 @@ many_kept p d (c ∷ cs) all =
       written = (first.written, others.written);
     }
 
-cells_many : (cs : List Con) → cell_count_of (followed_by cs End) ≡ total cell_count cs
+pub cells_many : (cs : List Con) → cell_count_of (followed_by cs End) ≡ total cell_count cs
 cells_many [] = refl
 cells_many (c ∷ cs) = ap (λ n. cell_count c + n) (cells_many cs)
 
@@ -213,7 +216,18 @@ module _ (p : Problem) (lawful : IsLawful p) where
   room_for (ties t c e) zero s kept = not_full zero s (of_tie t) (on_kept (at_form zero s (of_tie t)) kept)
   room_for (ties t c e) (suc d) s kept = not_full (suc d) s (of_tie t) (token_kept (at_form (suc d) s (of_tie t)) 2 _ kept).0
 
--- 3. What a constraint that is read keeps: all that the model asks of one that is added
+-- 3. The cells of what stands behind the name of a form without others inside keep the limit
+pub leaf_room : (p : Problem) → IsLawful p → (used : ℕ) → used ≤ CELLS → (f : Leaf) (ts rest : List Terminal) (c : Con) → AreFair ts → leaf_at p used f ts ≡ Ok (c, rest) → used + cell_count c ≤ CELLS
+leaf_room p lawful used fits f ts rest c fair is =
+    let read = subst (Said (leaf_spec p used f) (leaf_at p used f) ts) is ((leaf_law p used f).said ts) in
+    let row : List Argument = (form_line f).takes in
+    let tree_fair = (all_front IsFairToken ((leaf_spec p used f).spell read.tree) rest (subst AreFair read.parts fair)).1 in
+    let row_fair = subst AreFair (sym (spells_row p used row read.tree)) tree_fair in
+    let fitting = row_fits p lawful used fits row read.tree (behind_kept 1 (breaks_row (arguments p used) row read.tree) read.kept) row_fair in
+    let kept = subst (λ vs. IsKept p used 0 (meaning f vs)) (sym fitting.1) (leaf_kept p lawful used 0 fits f fitting.0) in
+    (subst (IsKept p used 0) read.means kept).room
+
+-- 4. What a constraint that is read keeps: all that the model asks of one that is added
 pub record MayBeAdded (p : Problem) (c : Con) : Type 0 where
   pub lawful : IsLawfulCon (domains_of p.decls) p.tuples c
   pub room : length p.cons < CONSTRAINTS

@@ -12,8 +12,8 @@ use Rattle.mn_language.specs.Constraints.{meaning}
 use Rattle.mn_language.specs.Forms.{form_line}
 use Rattle.mn_language.specs.declared.forms.Leaf.{Leaf}
 use Rattle.mn_language.specs.declared.forms.Leaf.TheVariants as form
-use Rattle.mn_language.proofs.Unbroken.{all_append}
-use Rattle.mn_language.proofs.LawfulVectors.{IsTerm, IsBitTerm}
+use Rattle.mn_references.proofs.Unbroken.{all_append}
+use Rattle.mn_references.proofs.LawfulVectors.{IsTerm, IsBitTerm}
 use Rattle.mn_language.proofs.LawfulArguments.{Fitting, collected}
 
 -- A constraint is lawful, where n cells are used before it and d forms may stand inside one another; its own cells keep

@@ -2,13 +2,9 @@ pub mod WorkedForms
 pub mod ArgumentLaws
 pub mod ConstraintLaws
 pub mod SectionLaw
-pub mod Unbroken
-pub mod LawfulReferences
-pub mod LawfulVectors
 pub mod LawfulArguments
 pub mod LawfulForms
 pub mod LawfulConstraints
-pub mod FairTokens
 pub mod TextLaw
 pub mod Verdicts
 pub mod Lexable

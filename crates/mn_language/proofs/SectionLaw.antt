@@ -17,9 +17,9 @@ use Rattle.mn_grammar.proofs.Views.{Lawful-view}
 use Rattle.mn_grammar.proofs.Sections.{firsts, body_spec, body_blocks, Lawful-body}
 use Rattle.mn_grammar.specs.declared.site.Site.TheVariants.{Fixed}
 use Rattle.mn_grammar.specs.declared.Kind.{Kind}
-use Rattle.mn_decls.specs.Heads.{head_token, head_of, all_heads}
-use Rattle.mn_decls.specs.declared.heads.Head.{Head}
-use Rattle.mn_decls.specs.declared.heads.Head.TheVariants.{Variables, TupleList, Search, Constraints, End}
+use Rattle.mn_cursor.specs.Heads.{head_token, head_of, all_heads}
+use Rattle.mn_cursor.specs.declared.heads.Head.{Head}
+use Rattle.mn_cursor.specs.declared.heads.Head.TheVariants.{Variables, TupleList, Search, Constraints, End}
 use Rattle.mn_language.specs.Constraints.{Constraint, spell_constraint, breaks_constraint, before_all, with_constraint, after_constraint, spell_section, breaks_section, value_section, constraints_spec}
 use Rattle.mn_language.specs.Constructing.{behind_form, depth_inside, constraint_at, which_first, at_first, first_at, rest_at, ended, constraints_at}
 use Rattle.mn_language.specs.Forms.{form_token, all_forms, form_of}

@@ -21,13 +21,13 @@ use Rattle.mn_grammar.proofs.Sections.{going, Lawful-going, ending, Lawful-endin
 use Rattle.mn_grammar.proofs.Views.{Lawful-view}
 use Rattle.mn_grammar.proofs.Exact.{exact}
 use Rattle.mn_model.specs.Problem.{Problem}
-use Rattle.mn_decls.specs.Heads.{head_token, all_heads}
+use Rattle.mn_cursor.specs.Heads.{head_token, all_heads}
 use Rattle.mn_decls.specs.Search as asks
 use Rattle.mn_decls.specs.Searching.{search_at}
 use Rattle.mn_decls.specs.TupleLists.{TupleList as Tuples, tuplelist_spec, tuplelist_at, whole}
-use Rattle.mn_decls.specs.Variables.{Declaration, variables_spec, variables_at}
-use Rattle.mn_decls.specs.declared.heads.Head.{Head}
-use Rattle.mn_decls.specs.declared.heads.Head.TheVariants.{Variables, TupleList, Search, Constraints, End}
+use Rattle.mn_decls.specs.Variables.{Entry, declares, names, variables_spec, variables_at}
+use Rattle.mn_cursor.specs.declared.heads.Head.{Head}
+use Rattle.mn_cursor.specs.declared.heads.Head.TheVariants.{Variables, TupleList, Search, Constraints, End}
 use Rattle.mn_decls.proofs.Askable as askable
 use Rattle.mn_decls.proofs.TupleListLaw.{heads_known, lists_law}
 use Rattle.mn_decls.proofs.VariableLaw as variable_law
@@ -39,7 +39,7 @@ use Rattle.mn_language.proofs.SectionLaw.{constraints_law}
 
 -- 1. A section behind its head: which trees it has hangs on the head
 abbrev pub Entries : Head → Type 0
-Entries Variables = List Declaration × Head
+Entries Variables = List Entry × Head
 Entries TupleList = List Tuples × Head
 Entries Search = asks.Section
 Entries Constraints = List Constraint × Head
@@ -49,7 +49,7 @@ abbrev pub Ends : Head → Type 0
 Ends End = Unit {0}
 Ends _ = ⊥
 
-abbrev pub variables_turn : Stated → Spec (List Declaration × Head) Place
+abbrev pub variables_turn : Stated → Spec (List Entry × Head) Place
 variables_turn s = valued (with_problem s) (variables_spec s.problem)
 
 abbrev pub lists_turn : Stated → Spec (List Tuples × Head) Place
@@ -121,9 +121,10 @@ turn_ends s Search e = absurd e
 turn_ends s Constraints e = absurd e
 turn_ends s End e = refl
 
-variables_grow : (ds : List Declaration) (h : Head) → spell_entries (variables ds) h ≡ [] → ⊥
+variables_grow : (es : List Entry) (h : Head) → spell_entries (variables es) h ≡ [] → ⊥
 variables_grow [] h e = cc
-variables_grow (d ∷ ds) h e = cc
+variables_grow (declares d ∷ es) h e = cc
+variables_grow (names a ∷ es) h e = cc
 
 lists_grow : (ls : List Tuples) (h : Head) → spell_entries (tuple_lists ls) h ≡ [] → ⊥
 lists_grow [] h e = cc

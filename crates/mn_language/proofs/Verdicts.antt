@@ -22,12 +22,12 @@ use Rattle.mn_model.specs.declared.limits.TheConstants.{TEXT_BYTES}
 use Rattle.mn_model.specs.declared.refusal.Refusal.{Refusal}
 use Rattle.mn_model.specs.declared.refusal.Refusal.TheVariants as refusals
 use Rattle.mn_model.specs.declared.refusal.Which.TheVariants.{Text}
-use Rattle.mn_decls.specs.Heads.{head_token}
-use Rattle.mn_decls.specs.Progress.{Progress, rest, end_of, byte_at, refusal_at, refusal_of, IsTold}
+use Rattle.mn_cursor.specs.Heads.{head_token}
+use Rattle.mn_cursor.specs.Progress.{Progress, nothing_asked, rest, end_of, byte_at, refusal_at, refusal_of, IsTold}
 use Rattle.mn_decls.specs.Search as asks
 use Rattle.mn_decls.specs.TupleLists.{TupleList, spell_list, spell_lists}
-use Rattle.mn_decls.specs.Variables.{Declaration, spell_declaration, spell_declarations}
-use Rattle.mn_decls.specs.declared.heads.Head.TheVariants.{End}
+use Rattle.mn_decls.specs.Variables.{Entry, spell_entry, spell_declarations}
+use Rattle.mn_cursor.specs.declared.heads.Head.TheVariants.{End}
 use Rattle.mn_language.specs.Constraints as constrains
 use Rattle.mn_language.specs.Texts.{Section, variables, tuple_lists, search, constraints, head_before, spell_entries, spell_sections, spell_text, breaks_text, text_spec, Reads, IsRefusedWithin, IsRefused, IsVerdict}
 use Rattle.mn_language.specs.WholeTexts.{text_at, Answers}
@@ -54,9 +54,9 @@ end_before (x ∷ xs) ys e = first (is_the_head (codes "**EOF**") x) (has_end xs
     first true c d e then = refl
     first false c d e then = then e
 
-declarations_end : (ds : List Declaration) → has_end (spell_declarations ds End) ≡ true
+declarations_end : (es : List Entry) → has_end (spell_declarations es End) ≡ true
 declarations_end [] = refl
-declarations_end (d ∷ ds) = end_behind (spell_declaration d) (spell_declarations ds End) (declarations_end ds)
+declarations_end (e ∷ es) = end_behind (spell_entry e) (spell_declarations es End) (declarations_end es)
 
 lists_end : (ls : List TupleList) → has_end (spell_lists ls End) ≡ true
 lists_end [] = refl
@@ -71,7 +71,7 @@ constraints_end [] = refl
 constraints_end (c ∷ cs) = end_behind (constrains.spell_constraint c) (constrains.spell_section cs End) (constraints_end cs)
 
 entries_end : (s : Section) → has_end (spell_entries s End) ≡ true
-entries_end (variables ds) = declarations_end ds
+entries_end (variables es) = declarations_end es
 entries_end (tuple_lists ls) = lists_end ls
 entries_end (search items) = search_ends items
 entries_end (constraints cs) = constraints_end cs
@@ -137,7 +137,7 @@ same_fault : {V : Type 0} (r : Result V Fault) (e f : Fault) → r ≡ Err e →
 same_fault {V = V} r e f a b = let same : ◌≡◌ {A = Result V Fault} (Err e) (Err f) = sym a ∙ b in cc
 
 -- at its first token all are left
-pub rest_begun : (text : List ℕ) (tokens : List Token) (stop : Option LexFault) → rest (record { text = text; tokens = tokens; stop = stop; left = length tokens; problem = nothing }) ≡ map (token_of text) tokens
+pub rest_begun : (text : List ℕ) (tokens : List Token) (stop : Option LexFault) → rest (record { text = text; tokens = tokens; stop = stop; left = length tokens; problem = nothing; asked = nothing_asked }) ≡ map (token_of text) tokens
 unfolding rest
 rest_begun text tokens stop = let none : length tokens - length tokens ≡ 0 = omega arith in ap (λ n. map (token_of text) (drop n tokens)) none
 
@@ -146,7 +146,7 @@ module _ (text : List ℕ) (size : length text ≤ TEXT_BYTES) (tokens : List To
   seen = map (token_of text) tokens
 
   abbrev begun : Progress
-  begun = record { text = text; tokens = tokens; stop = stop; left = length tokens; problem = nothing }
+  begun = record { text = text; tokens = tokens; stop = stop; left = length tokens; problem = nothing; asked = nothing_asked }
 
   abbrev verdict : Result Problem Fault
   verdict = whole stop text_at seen

@@ -18,7 +18,7 @@ use Rattle.mn_grammar.specs.declared.Fault.{Fault}
 use Rattle.mn_grammar.specs.declared.Kind.{Kind}
 use Rattle.mn_grammar.specs.declared.Kind.TheVariants.{Name as Undeclared, Shape, Syntax, Unsupported, Limit}
 use Rattle.mn_grammar.specs.declared.Limit.TheVariants.{Constraints, Cells, Nesting, Vector}
-use Rattle.mn_decls.specs.Referring.{sub_at, subs_at, behind_name, ref_at, behind_entry, entry_at, list_at, behind_vector, vector_at}
+use Rattle.mn_references.specs.Referring.{sub_at, subs_at, behind_name, ref_at, behind_entry, entry_at, list_at, behind_vector, vector_at}
 use Rattle.mn_language.specs.Arguments.{exactly, at_another, at_tuple, numbers_wanted}
 use Rattle.mn_language.specs.Constraints.{Before, inside, at_form, tied}
 use Rattle.mn_language.specs.Constructing.{numbers_at, range_at, tuple_at, behind_table, table_at, argument_at, leaf_at, gather_at, tie_at, form_at, constraint_at, first_at, rest_at, constraints_at}

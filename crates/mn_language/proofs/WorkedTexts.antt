@@ -15,12 +15,12 @@ use Rattle.mn_grammar.specs.Bodies.{body_at}
 use Rattle.mn_grammar.specs.declared.Fault.{Fault}
 use Rattle.mn_grammar.specs.declared.Kind.{Kind}
 use Rattle.mn_grammar.specs.declared.Kind.TheVariants.{Name as Known, Syntax, Unsupported, Again, Lex as Unlexed}
-use Rattle.mn_decls.specs.Heads.{head_token}
-use Rattle.mn_decls.specs.Referring.{sub_at, subs_at, behind_name, ref_at, behind_entry, entry_at}
+use Rattle.mn_cursor.specs.Heads.{head_token}
+use Rattle.mn_references.specs.Referring.{sub_at, subs_at, behind_name, ref_at, behind_entry, entry_at}
 use Rattle.mn_decls.specs.Searching.{order_at, behind_static, var_order_at, item_rest, item_first, search_at}
 use Rattle.mn_decls.specs.TupleLists as lists
 use Rattle.mn_decls.specs.Variables as vars
-use Rattle.mn_decls.specs.declared.heads.Head.TheVariants.{Variables, TupleList, Search, Constraints, End}
+use Rattle.mn_cursor.specs.declared.heads.Head.TheVariants.{Variables, TupleList, Search, Constraints, End}
 use Rattle.mn_language.specs.Constructing as constructing
 use Rattle.mn_language.specs.WholeTexts.{section_at, behind_head, any_head, sections_at, version_at, behind_title, text_at}
 
@@ -79,12 +79,12 @@ no_head_behind = refl
 
 -- a text that ends behind a declaration, and the same at a lexical fault
 cut : behind_three (head_token Variables ∷ bool) ≡ refused_with 0 Syntax
-unfolding word_at one_of name_at loop version_at behind_title any_head behind_head sections_at section_at text_at body_at vars.word_at vars.declaration_at vars.dims_at vars.domain_at vars.variables_at
+unfolding word_at one_of name_at loop version_at behind_title any_head behind_head sections_at section_at text_at body_at vars.word_at vars.declaration_at vars.dims_at vars.domain_at vars.entry_at vars.entries_at
 cut = refl
 
 -- a name that is declared in one section and again in another
 twice : behind_three (head_token Variables ∷ bool ++ head_token TupleList ∷ head_token Variables ∷ bool ++ head_token End ∷ []) ≡ refused_with 2 Known
-unfolding word_at one_of name_at loop version_at behind_title any_head behind_head sections_at section_at text_at body_at lists.first_at lists.lists_at vars.word_at vars.declaration_at vars.dims_at vars.domain_at vars.variables_at
+unfolding word_at one_of name_at loop version_at behind_title any_head behind_head sections_at section_at text_at body_at lists.first_at lists.lists_at vars.word_at vars.declaration_at vars.dims_at vars.domain_at vars.entry_at vars.entries_at
 twice = refl
 
 -- a second VARORDER, in a section of its own
@@ -100,5 +100,5 @@ one_constraint : behind_three (head_token Variables ∷ bool ++ head_token Const
   decls = record { name = codes "x"; dims = []; kind = Binary; domain = stretch (pos 0) (pos 1); first = variable 0 } ∷ [];
   cons = con.Eq (Var (variable 0)) (Var (variable 0)) ∷ [];
 })
-unfolding word_at one_of name_at mark_at loop version_at behind_title any_head behind_head sections_at section_at text_at body_at vars.word_at vars.declaration_at vars.dims_at vars.domain_at vars.variables_at sub_at subs_at behind_name ref_at behind_entry entry_at constructing.argument_at constructing.leaf_at constructing.form_at constructing.first_at constructing.rest_at constructing.constraints_at
+unfolding word_at one_of name_at mark_at loop version_at behind_title any_head behind_head sections_at section_at text_at body_at vars.word_at vars.declaration_at vars.dims_at vars.domain_at vars.entry_at vars.entries_at sub_at subs_at behind_name ref_at behind_entry entry_at constructing.argument_at constructing.leaf_at constructing.form_at constructing.first_at constructing.rest_at constructing.constraints_at
 one_constraint = refl

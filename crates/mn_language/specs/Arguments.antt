@@ -17,10 +17,10 @@ use Rattle.mn_grammar.specs.Rows.{Sorts, Arguments}
 use Rattle.mn_grammar.specs.declared.Kind.{Kind}
 use Rattle.mn_grammar.specs.declared.Kind.TheVariants as kinds
 use Rattle.mn_grammar.specs.declared.Limit.TheVariants as limits
-use Rattle.mn_decls.specs.Conditions.{lesser, as_kind}
-use Rattle.mn_decls.specs.Entries.{Entry, spell_entry, breaks_entry, value_entry, a_term, Placed, any_number, Vector, spell_vector, breaks_vector, value_vector}
-use Rattle.mn_decls.specs.declared.want.Bounds.{Bounds}
-use Rattle.mn_decls.specs.declared.want.Unfit.{Unfit}
+use Rattle.mn_references.specs.Conditions.{lesser, as_kind}
+use Rattle.mn_references.specs.Entries.{Entry, spell_entry, breaks_entry, value_entry, a_term, Placed, any_number, Vector, spell_vector, breaks_vector, value_vector}
+use Rattle.mn_references.specs.declared.want.Bounds.{Bounds}
+use Rattle.mn_references.specs.declared.want.Unfit.{Unfit}
 use Rattle.mn_language.specs.declared.forms.Argument.{Argument}
 use Rattle.mn_language.specs.declared.forms.Argument.TheVariants as takes
 use Rattle.mn_language.specs.declared.forms.Numbers.{Numbers}

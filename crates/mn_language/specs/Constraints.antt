@@ -17,11 +17,11 @@ use Rattle.mn_grammar.specs.declared.site.Site.TheVariants.{Fixed}
 use Rattle.mn_grammar.specs.declared.Kind.{Kind}
 use Rattle.mn_grammar.specs.declared.Kind.TheVariants as kinds
 use Rattle.mn_grammar.specs.declared.Limit.TheVariants as limits
-use Rattle.mn_decls.specs.Conditions.{lesser, as_kind}
-use Rattle.mn_decls.specs.Entries.{Entry, spell_entry, breaks_entry, value_entry, a_term}
-use Rattle.mn_decls.specs.Heads.{head_token}
-use Rattle.mn_decls.specs.declared.heads.Head.{Head}
-use Rattle.mn_decls.specs.declared.heads.Head.TheVariants.{End}
+use Rattle.mn_references.specs.Conditions.{lesser, as_kind}
+use Rattle.mn_references.specs.Entries.{Entry, spell_entry, breaks_entry, value_entry, a_term}
+use Rattle.mn_cursor.specs.Heads.{head_token}
+use Rattle.mn_cursor.specs.declared.heads.Head.{Head}
+use Rattle.mn_cursor.specs.declared.heads.Head.TheVariants.{End}
 use Rattle.mn_language.specs.Arguments.{Value, vector_at_place, term_at_place, numbers_at_place, number_at_place, second_at_place, tuples_at_place, term_of, Written, spell_arguments, arguments}
 use Rattle.mn_language.specs.Forms.{form_line, form_token}
 use Rattle.mn_language.specs.declared.forms.Form.{Form}

@@ -15,11 +15,11 @@ use Rattle.mn_grammar.specs.Rows.{row_at}
 use Rattle.mn_grammar.specs.Bodies.{body_at}
 use Rattle.mn_grammar.specs.declared.site.Site.TheVariants.{Free, Fixed, MarksOnly}
 use Rattle.mn_grammar.specs.declared.Kind.{Kind}
-use Rattle.mn_decls.specs.Conditions.{as_kind}
-use Rattle.mn_decls.specs.Entries.{a_term}
-use Rattle.mn_decls.specs.Referring.{entry_at, vector_at}
-use Rattle.mn_decls.specs.Heads.{head_of}
-use Rattle.mn_decls.specs.declared.heads.Head.{Head}
+use Rattle.mn_references.specs.Conditions.{as_kind}
+use Rattle.mn_references.specs.Entries.{a_term}
+use Rattle.mn_references.specs.Referring.{entry_at, vector_at}
+use Rattle.mn_cursor.specs.Heads.{head_of}
+use Rattle.mn_cursor.specs.declared.heads.Head.{Head}
 use Rattle.mn_language.specs.Arguments.{Value, placed_value, of_numbers, of_tuples, length_wanted, term_of, vector_wanted, numbers_wanted, Wanted, exactly, at_one, at_close, number_ends, with_number, tuple_ends, at_tuple, with_tuple, at_list, list_place, behind_argument}
 use Rattle.mn_language.specs.Constraints.{Before, before_all, inside, cells_behind, at_form, meaning, gathered, tied, with_constraint}
 use Rattle.mn_language.specs.Forms.{form_line, form_token, all_forms, form_of}

@@ -13,28 +13,29 @@ use Rattle.mn_model.specs.declared.limits.TheConstants.{TEXT_BYTES}
 use Rattle.mn_model.specs.declared.refusal.Refusal.{Refusal}
 use Rattle.mn_model.specs.declared.refusal.Refusal.TheVariants.{Limit}
 use Rattle.mn_model.specs.declared.refusal.Which.TheVariants.{Text}
-use Rattle.mn_decls.specs.Heads.{head_token}
-use Rattle.mn_decls.specs.Progress.{end_of, byte_at, refusal_at}
-use Rattle.mn_decls.specs.Variables.{Declaration, spell_declarations, breaks_declarations, value_declarations}
+use Rattle.mn_cursor.specs.Heads.{head_token}
+use Rattle.mn_cursor.specs.Progress.{nothing_asked, end_of, byte_at, refusal_at}
+use Rattle.mn_decls.specs.Variables.{Entry, spell_declarations, breaks_declarations, value_declarations}
 use Rattle.mn_decls.specs.TupleLists.{TupleList, whole, spell_lists, breaks_lists, value_lists}
 use Rattle.mn_decls.specs.Search as asks
-use Rattle.mn_decls.specs.Search.{Asked, nothing_asked, Asking, Item}
-use Rattle.mn_decls.specs.declared.heads.Head.{Head}
-use Rattle.mn_decls.specs.declared.heads.Head.TheVariants as heads
+use Rattle.mn_cursor.specs.declared.asked.Asked.{Asked}
+use Rattle.mn_decls.specs.Search.{Asking, Item}
+use Rattle.mn_cursor.specs.declared.heads.Head.{Head}
+use Rattle.mn_cursor.specs.declared.heads.Head.TheVariants as heads
 use Rattle.mn_language.specs.Constraints as constrains
 use Rattle.mn_language.specs.Constraints.{Constraint}
 
 -- 1. The trees of a text, and how it is spelled
 
--- a section, by its entries: variables, tuple lists, how to search and what to print, or constraints
+-- a section, by its entries: variables and aliases, tuple lists, how to search and what to print, or constraints
 pub data Section : Type 0 where
-  variables : List Declaration → Section
+  variables : List Entry → Section
   tuple_lists : List TupleList → Section
   search : List Item → Section
   constraints : List Constraint → Section
 
 abbrev pub head_before : Section → Head
-head_before (variables ds) = heads.Variables
+head_before (variables es) = heads.Variables
 head_before (tuple_lists ls) = heads.TupleList
 head_before (search items) = heads.Search
 head_before (constraints cs) = heads.Constraints
@@ -46,7 +47,7 @@ first_head (s ∷ ss) = head_before s
 
 -- the entries of a section, and the head behind them
 abbrev pub spell_entries : Section → Head → List Terminal
-spell_entries (variables ds) h = spell_declarations ds h
+spell_entries (variables es) h = spell_declarations es h
 spell_entries (tuple_lists ls) h = spell_lists ls h
 spell_entries (search items) h = asks.spell_section items h
 spell_entries (constraints cs) h = constrains.spell_section cs h
@@ -78,14 +79,14 @@ abbrev pub stated_by : Asking → Stated
 stated_by a = record { problem = a.problem; asked = a.asked }
 
 abbrev pub breaks_entries : Stated → Section → List Break
-breaks_entries s (variables ds) = breaks_declarations s.problem ds
+breaks_entries s (variables es) = breaks_declarations s.problem es
 breaks_entries s (tuple_lists ls) = breaks_lists (whole s.problem) ls
 breaks_entries s (search items) = asks.breaks_section (asking s) items
 breaks_entries s (constraints cs) = constrains.breaks_section s.problem cs
 
 -- what is said with one more section
 abbrev pub after_section : Stated → Section → Stated
-after_section s (variables ds) = record s { problem = value_declarations s.problem ds }
+after_section s (variables es) = record s { problem = value_declarations s.problem es }
 after_section s (tuple_lists ls) = record s { problem = value_lists (whole s.problem) ls }
 after_section s (search items) = stated_by (asks.value_section (asking s) items)
 after_section s (constraints cs) = record s { problem = constrains.value_section s.problem cs }

@@ -6,14 +6,14 @@ use Rattle.mn_grammar.specs.declared.site.Site.TheVariants.{Fixed}
 use Rattle.mn_grammar.specs.declared.Kind.{Kind}
 use Rattle.mn_model.specs.Problem.{Problem}
 use Rattle.mn_model.specs.declared.refusal.Refusal.{Refusal}
-use Rattle.mn_decls.specs.Heads.{head_token, all_heads}
-use Rattle.mn_decls.specs.Progress.{Progress, IsTold}
+use Rattle.mn_cursor.specs.Heads.{head_token, all_heads}
+use Rattle.mn_cursor.specs.Progress.{Progress, IsTold}
 use Rattle.mn_decls.specs.Search.{Asking}
 use Rattle.mn_decls.specs.Searching.{search_at}
 use Rattle.mn_decls.specs.TupleLists.{tuplelist_at}
 use Rattle.mn_decls.specs.Variables.{variables_at}
-use Rattle.mn_decls.specs.declared.heads.Head.{Head}
-use Rattle.mn_decls.specs.declared.heads.Head.TheVariants.{Variables, TupleList, Search, Constraints, End}
+use Rattle.mn_cursor.specs.declared.heads.Head.{Head}
+use Rattle.mn_cursor.specs.declared.heads.Head.TheVariants.{Variables, TupleList, Search, Constraints, End}
 use Rattle.mn_language.specs.Constructing.{constraints_at}
 use Rattle.mn_language.specs.Texts.{Stated, nothing_stated, asking, stated_by}
 
