@@ -1,0 +1,4 @@
+pub mod Numbering
+pub mod Tabling
+pub mod Filling
+pub mod Nesting
