@@ -1,5 +1,1 @@
-pub mod Asks
-pub mod Cutting
-pub mod Plain
-pub mod Refusing
-pub mod Steps
+pub mod TextSteps

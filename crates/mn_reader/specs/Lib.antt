@@ -1,2 +1,1 @@
-pub mod Left
-pub mod Reads
+pub mod TextProgress
