@@ -1,0 +1,12 @@
+pub mod Joining
+pub mod Separating
+pub mod Owners
+pub mod Sizes
+pub mod NameParts
+pub mod Rows
+pub mod Made
+pub mod Values
+pub mod Nested
+pub mod Finished
+pub mod Worked
+pub mod Ones

@@ -1,0 +1,31 @@
+use Rattle.std.proofs.Common.{◌≡◌, ℕ, ◌<◌, ◌≤◌, List, Result, Ok, Err, IfOk, IfErr, IsErr, length, ap, sym, ◌∙◌, subst, refl, arith}
+use Rattle.mn_model.specs.declared.limits.TheConstants.{TEXT_BYTES}
+use Rattle.mn_printer.specs.Canonical.{IsFaultOf, canonical_text}
+use Rattle.mn_printer.specs.Pages.{Written, onto, blank}
+use Rattle.mn_printer.specs.declared.sections.PrintFault.{PrintFault}
+use Rattle.mn_printer.specs.declared.sections.PrintFault.TheVariants.{TooLong}
+use Rattle.mn_printer.proofs.Finished.{count_is, length_within, length_past, kept_is}
+use Rattle.mn_printer.proofs.sections.print.Goals as goal
+
+-- what is answered, by the page
+record IsAnswered {V : Type 0} (items : V → List ℕ) (text : List ℕ) (r : Result V PrintFault) : Type 0 where
+  is_text : IfOk r (λ bytes. items bytes ≡ text)
+  fits : IfOk r (λ bytes. length (items bytes) ≤ TEXT_BYTES)
+  too_long : IfErr r (IsFaultOf text)
+  long : TEXT_BYTES < length text → IsErr r
+
+answered : {V : Type 0} (items : V → List ℕ) (page : Written) (text : List ℕ) → page ≡ onto blank text → (r : Result V PrintFault)
+    → IfOk r (λ bytes. (items bytes ≡ page.kept) × (page.count ≤ TEXT_BYTES)) → IfErr r (λ fault. (TEXT_BYTES < page.count) × (fault ≡ TooLong page.count)) → IsAnswered items text r
+answered items page text e (Ok bytes) ok err =
+    let few : length text ≤ TEXT_BYTES = length_within (length text) page.count (count_is page text e) ok.1 in
+    let whole : items bytes ≡ text = ok.0 ∙ kept_is page text e few in
+    record { is_text = whole; fits = omega (arith, few, ap length whole); too_long = tt; long = λ many. absurd (omega (arith, few, many)) }
+answered items page text e (Err fault) ok err =
+    let told : IsFaultOf text (TooLong page.count) = (length_past (length text) page.count (count_is page text e) err.0, count_is page text e) in
+    record { is_text = tt; fits = tt; too_long = subst (IsFaultOf text) (sym err.1) told; long = λ many. refl }
+
+pub returns : goal.returns
+returns c =
+    let page : c.sections.new.page ≡ onto blank (canonical_text c.args.inst.now) = c.in_ok-sections.ensures ∙ ap (λ w. onto w (canonical_text c.args.inst.now)) c.new-page.ensures in
+    let all = answered (λ bytes. bytes.items) c.sections.new.page (canonical_text c.args.inst.now) page c.finished.result c.finished.ensures.ok c.finished.ensures.err in
+    record { text = all.is_text; fits = all.fits; too_long = all.too_long; long = all.long }

@@ -1,0 +1,21 @@
+use Rattle.std.proofs.Common.{◌≡◌, codes, sym, ap, ◌∙◌, arith}
+use Rattle.std.specs.List.{flat_map}
+use Rattle.mn_printer.specs.Pages.{onto}
+use Rattle.mn_printer.specs.Tables.{tuple_line}
+use Rattle.mn_printer.proofs.Joining.{onto_nothing}
+use Rattle.mn_printer.proofs.Separating.{twice}
+use Rattle.mn_printer.proofs.Rows.{one_row_more, no_rows}
+use Rattle.mn_printer.proofs.tables.tuple_lines.Goals as goal
+
+pub loop-left-preserved : goal.loop-left-preserved
+loop-left-preserved c =
+    one_row_more c.loop-left.page c.put.new.self tuple_line c.args.arity c.loop-left.left c.loop-left.rest.now c.row_and_rest.result.1.now
+    (tuple_line c.row_and_rest.result.0.now) c.loop-left-test.true c.row_and_rest.ensures.rest
+    (twice _ _ _ _ (codes "\n") c.in_ok-separated.ensures c.in_ok-put.ensures) (ap tuple_line c.row_and_rest.ensures.row)
+    ∙ c.loop-left.invariant
+
+pub returns : goal.returns
+returns c =
+    let none : c.loop-left.left ≡ 0 = omega arith in
+    sym (onto_nothing _) ∙ ap (λ rows. onto c.loop-left.page (flat_map tuple_line rows)) (sym (no_rows c.args.arity c.loop-left.left c.loop-left.rest.now none))
+    ∙ c.loop-left.invariant
