@@ -1,5 +1,5 @@
 -- What is supported where all other places have one value alone.
-use Rattle.std.proofs.Common.{◌≡◌, ◌≢◌, ◌↔◌, ℕ, zero, suc, ◌<◌, ◌≤◌, ℤ, ◌⊎◌, inl, inr, Bool, true, false, IsTrue, List, [], ◌∷◌, length, map, get_or, slice_get, Some, Ok, ◌+◌, refl, sym, subst, ap, ◌∙◌, arith, true≢false}
+use Rattle.std.proofs.Common.{◌≡◌, ◌≢◌, ◌↔◌, ℕ, zero, suc, ◌<◌, ◌≤◌, ℤ, ◌⊎◌, inl, inr, Bool, false, IsTrue, List, [], ◌∷◌, length, map, get_or, slice_get, Some, Result, Ok, Err, ◌+◌, refl, sym, subst, ap, ◌∙◌, arith, true≢false}
 use Rattle.std.proofs.lemmas.Option.{get_or_from_slice_get, slice_get-get_or, slice_get_read, slice_get_within}
 use Rattle.mn_model.specs.Decided.{Decided, decide_nat}
 use Rattle.mn_model.specs.Parts.{places}
@@ -7,17 +7,22 @@ use Rattle.mn_model.specs.declared.constraint.Con.{Con}
 use Rattle.mn_model.specs.declared.constraint.Con.TheVariants as con
 use Rattle.mn_model.specs.declared.constraint.Term.{Term}
 use Rattle.mn_model.specs.declared.declaration.Tuples.{Tuples}
+use Rattle.mn_boxes.specs.Boxes.{IsBox}
 use Rattle.mn_boxes.specs.Places.{PlaceHas}
 use Rattle.mn_meaning.specs.Meaning.{HoldsOver, Meets, at, value_of}
-use Rattle.mn_closure.specs.Closed.{IsAlone, LeafClosed}
-use Rattle.mn_closure.specs.Levels.{Arc, Last, level}
+use Rattle.mn_closure.specs.Closed.{Asked, IsAlone, LeafClosed}
+use Rattle.mn_closure.specs.Levels.{level}
 use Rattle.mn_closure.specs.Supports.{Choice, ChoiceWith, IsOpen, OtherOpen, StandsAt, Supported, SupportedAt}
 use Rattle.mn_boxes.specs.Sets.{Variable}
 use Rattle.mn_domains.specs.Sets.{Sets}
 use Rattle.mn_prop.specs.Contexts.{IsNamed, place_lo}
-use Rattle.mn_prop.specs.Passes.{IsStep}
-use Rattle.mn_prop.proofs.Stepping.{no_step}
+use Rattle.mn_prop.specs.Passes.{IsReady, IsStep}
+use Rattle.mn_prop.specs.Sweeps.{PlaceClosed}
+use Rattle.mn_prop.specs.declared.context.Fail.{Fail}
+use Rattle.mn_prop.proofs.Ready.{ready_named}
+use Rattle.mn_prop.proofs.Stepping.{as_step, failing, no_step, none_taken}
 use Rattle.mn_basic.specs.Trials.{AlwaysOtherOpen, IsTrial, IsWhole, OthersAlone, is_pair}
+use Rattle.mn_basic.proofs.Ended.{least_of}
 
 -- every form but those of a pair is asked as a whole
 pub whole : (c : Con) → is_pair c ≡ false → IsWhole c
@@ -148,3 +153,58 @@ open_closed vars lists c s is always = no_step (LeafClosed vars lists c) s (reco
   bare = λ none. (let other = always 0 in let below : other.place < length (places c) = slice_get_within (places c) other.place other.term other.stands in absurd (let same = ap length none in omega (arith, below, same)));
   supported = λ i t a stands asked. open_supported lists c i a s.sets is (slice_get_within (places c) i t stands) (always i);
 })
+
+-- ---- the place that alone may have several values
+
+pub filled_within : (c : Con) → (places c ≡ [] → ⊥) → 0 < length (places c)
+filled_within c filled = by (places c) refl
+  where
+    by : (ts : List Term) → ts ≡ places c → 0 < length ts
+    by [] none = absurd (filled (sym none))
+    by (t ∷ ts) some = omega arith
+
+-- the value of a choice at a place is there
+choice_there : (box : List (List ℤ)) (ts : List Term) (xs : List ℤ) (i : ℕ) (t : Term) → Choice box ts xs → slice_get ts i ≡ Some t → PlaceHas box t (at xs i)
+choice_there box [] xs i t chosen stands = cc
+choice_there box (u ∷ ts) [] i t chosen stands = absurd chosen
+choice_there box (u ∷ ts) (x ∷ xs) zero t chosen stands = let same : u ≡ t = cc in subst (λ v. PlaceHas box v x) same chosen.0
+choice_there box (u ∷ ts) (x ∷ xs) (suc i) t chosen stands = choice_there box ts xs i t chosen.1 stands
+
+-- a choice with the value of one place has that of each place that has one alone
+choice_elsewhere : (lists : List Tuples) (c : Con) (i j : ℕ) (t : Term) (a b : ℤ) (box : List (List ℤ)) → StandsAt c i t → IsAlone box t (place_lo box t) → PlaceHas box t a → ChoiceWith lists c j b box → ChoiceWith lists c i a box
+choice_elsewhere lists c i j t a b box stands alone has choice = record {
+  values = choice.values;
+  chosen = choice.chosen;
+  given = alone (at choice.values i) (choice_there box (places c) choice.values i t choice.chosen stands) ∙ sym (alone a has);
+  meets = choice.meets;
+}
+
+-- where its values are supported, so are those of all other places
+left_closed : (vars : List Variable) (lists : List Tuples) (c : Con) (box : List (List ℤ)) (j : ℕ) → IsWhole c → IsBox vars box → AreNamed c box → j < length (places c) → OthersAlone c j box → PlaceClosed vars lists c j box → LeafClosed vars lists c box
+left_closed vars lists c box j is lawful named within alone here = record {
+  bare = λ none. (let same = ap length none in absurd (omega (arith, same, within)));
+  supported = λ i t a stands asked. by i t a stands asked (decide_nat i j);
+}
+  where
+    by : (i : ℕ) (t : Term) (a : ℤ) → StandsAt c i t → Asked (level c) vars box t a → Decided (i ≡ j) → Supported lists c i a box
+    by i t a stands asked (inl same) = subst (λ n. Supported lists c n a box) (sym same) (here t a (subst (λ n. StandsAt c n t) same stands) asked)
+    by i t a stands asked (inr differs) =
+        let u : Term = get_or (places c) j t in
+        let at_j : StandsAt c j u = slice_get-get_or (places c) j t within in
+        let least = least_of (level c) vars box u lawful (named j u at_j) in
+        choice_supported lists c i a box is (choice_elsewhere lists c i j t a least.value box stands (alone i t stands differs) asked.there (supported_choice lists c j least.value box is alone (here u least.value at_j least.asked)))
+
+pub left_step : (lists : List Tuples) (c : Con) (j : ℕ) (old new : Sets) (result : Result (Unit {0}) Fail) → IsWhole c → IsBox old.vars old.sets → IsReady old.vars lists c → j < length (places c) → OthersAlone c j old.sets → IsStep (PlaceClosed old.vars lists c j) old new result → IsStep (LeafClosed old.vars lists c) old new result
+left_step lists c j old new result is lawful ready within alone step =
+    as_step (PlaceClosed old.vars lists c j) (LeafClosed old.vars lists c) old new result (λ box lawful_box inside closed t a stands asked. closed.supported j t a stands asked)
+    (left_closed old.vars lists c old.sets j is lawful (λ i t stands. ready_named old.vars lists c old.sets i t lawful ready stands) within alone) step
+
+-- a constraint with no places holds, or it doesn't
+pub bare_closed : (vars : List Variable) (lists : List Tuples) (c : Con) (s : Sets) → places c ≡ [] → (places c ≡ [] → Meets lists c []) → IsStep (LeafClosed vars lists c) s s (Ok tt)
+bare_closed vars lists c s none holds = no_step (LeafClosed vars lists c) s (record {
+  bare = holds;
+  supported = λ i t a stands asked. absurd (let below : i < length (places c) = slice_get_within (places c) i t stands in let same = ap length none in omega (arith, below, same));
+})
+
+pub bare_fails : (lists : List Tuples) (c : Con) (s : Sets) (fail : Fail) → ((places c ≡ [] → Meets lists c []) → ⊥) → IsStep (LeafClosed s.vars lists c) s s (Err fail)
+bare_fails lists c s fail never = failing (LeafClosed s.vars lists c) s s fail (none_taken s) (λ box is inside closed. never closed.bare)

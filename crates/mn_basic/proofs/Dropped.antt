@@ -1,6 +1,5 @@
 -- A value that is taken out of a place, and places that differ.
-use Rattle.std.proofs.Common.{◌≡◌, ◌≢◌, ◌↔◌, ℕ, ℤ, pos, ◌-ℤ◌, ◌⊎◌, inl, inr, Bool, true, false, not, IsTrue, List, [], ◌∷◌, Result, Ok, Err, IsErr, refl, sym, subst, ap, ◌∙◌, arith, true≢false}
-use Rattle.std.proofs.lemmas.Int.{ints}
+use Rattle.std.proofs.Common.{◌≡◌, ◌≢◌, ℕ, ℤ, pos, ◌-ℤ◌, ◌⊎◌, inl, inr, Bool, true, false, not, IsTrue, List, Result, Ok, refl, sym, subst, ap, ◌∙◌, true≢false}
 use Rattle.std.specs.Ordering.{int_eq}
 use Rattle.mn_model.specs.Decided.{Decided, decide_int}
 use Rattle.mn_model.specs.Domain.{Has}
@@ -19,8 +18,8 @@ use Rattle.mn_closure.specs.Supports.{IsOpen}
 use Rattle.mn_domains.specs.Changes.{is_not}
 use Rattle.mn_domains.specs.Sets.{Sets}
 use Rattle.mn_domains.proofs.Filtered.{eq_so, eq_true}
-use Rattle.mn_prop.specs.Contexts.{ChangedAt, Context, IsLeastAt, IsNamed, MayGoAt, place_lo}
-use Rattle.mn_prop.specs.Passes.{AllPass, IsReady, IsStep}
+use Rattle.mn_prop.specs.Contexts.{ChangedAt, Context, IsLeastAt, IsNamed, MayGoAt}
+use Rattle.mn_prop.specs.Passes.{AllPass, IsStep}
 use Rattle.mn_prop.specs.declared.context.Fail.{Fail}
 use Rattle.mn_prop.proofs.Stepping.{as_step, change_step, no_step, place_inside, then_step}
 use Rattle.mn_basic.specs.Literals.{EachAsked}

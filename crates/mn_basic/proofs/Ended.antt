@@ -1,12 +1,11 @@
 -- The ends of a place, which have to be supported whatever its variable.
-use Rattle.std.proofs.Common.{◌≡◌, ℕ, suc, ◌-◌, ℤ, pos, ◌-ℤ◌, ◌≤ℤ◌, inl, inr, List, [], ◌∷◌, length, refl, sym, subst, ap, ◌∙◌, arith}
+use Rattle.std.proofs.Common.{◌≡◌, ℕ, suc, ◌-◌, ℤ, pos, ◌-ℤ◌, ◌≤ℤ◌, inl, inr, List, [], ◌∷◌, length, refl, sym, subst, arith}
 use Rattle.std.proofs.lemmas.Int.{ints}
 use Rattle.mn_model.specs.Domain.{Has, IsFirst, IsLast}
 use Rattle.mn_model.specs.Variable.{number_of}
 use Rattle.mn_model.specs.declared.constraint.Term.{Term}
 use Rattle.mn_model.specs.declared.constraint.Term.TheVariants.{Var, Const, Not}
 use Rattle.mn_boxes.specs.Boxes.{IsBox, set_of}
-use Rattle.mn_boxes.specs.Places.{PlaceHas}
 use Rattle.mn_boxes.specs.Sets.{IsEnd, Variable}
 use Rattle.mn_boxes.proofs.Members.{stands_first, stands_last}
 use Rattle.mn_boxes.proofs.Quiet.{ascends_at}

@@ -1,8 +1,10 @@
 pub mod Alone
 pub mod Dropped
 pub mod Ended
+pub mod Numbered
 pub mod Ordered
 pub mod Paired
 pub mod Placed
+pub mod Reached
 pub mod Tied
 pub mod Tried

@@ -1,7 +1,6 @@
 -- Two places in order.
-use Rattle.std.proofs.Common.{◌≡◌, ℕ, zero, suc, ◌<◌, ℤ, ◌+ℤ◌, ◌-ℤ◌, ◌≤ℤ◌, ◌<ℤ◌, pos, negsuc, List, [], ◌∷◌, length, slice_get, Some, Result, Ok, Err, IsErr, refl, sym, subst, ap, ◌∙◌, arith}
+use Rattle.std.proofs.Common.{◌≡◌, ℕ, zero, suc, ◌<◌, ℤ, ◌+ℤ◌, ◌-ℤ◌, ◌≤ℤ◌, ◌<ℤ◌, pos, negsuc, List, [], ◌∷◌, slice_get, Some, Result, Ok, Err, IsErr, refl, sym, subst, ◌∙◌, arith}
 use Rattle.std.proofs.lemmas.Int.{ints}
-use Rattle.mn_model.specs.Parts.{places}
 use Rattle.mn_model.specs.Variable.{number_of}
 use Rattle.mn_model.specs.declared.constraint.Term.{Term}
 use Rattle.mn_model.specs.declared.constraint.Term.TheVariants.{Var, Const, Not}
@@ -17,7 +16,7 @@ use Rattle.mn_prop.specs.Contexts.{IsGreatestAt, IsLeastAt, IsNamed}
 use Rattle.mn_prop.specs.Passes.{AtLeastAt, AtMostAt, IsReady, IsStep, NoneHas, OnlyTakes}
 use Rattle.mn_prop.specs.declared.context.Fail.{Fail}
 use Rattle.mn_prop.proofs.Ready.{ready_named}
-use Rattle.mn_prop.proofs.Stepping.{as_long, as_step, failing, none_taken, place_inside, some_value, stop_step, then_step}
+use Rattle.mn_prop.proofs.Stepping.{as_long, as_step, failing, none_taken, place_inside, stop_step, then_step}
 use Rattle.mn_basic.specs.Pairs.{IsOrdered, Related, SomeAt, pair_of}
 use Rattle.mn_basic.specs.declared.relation.Relation.{Relation}
 use Rattle.mn_basic.specs.declared.relation.Relation.TheVariants.{AtMost, Below}

@@ -1,8 +1,6 @@
 -- What is supported of a pair.
-use Rattle.std.proofs.Common.{◌≡◌, ◌≢◌, ◌↔◌, ℕ, zero, suc, ◌<◌, ℤ, pos, ◌-ℤ◌, ◌+ℤ◌, ◌≤ℤ◌, neg_ℤ, nat_abs, Bool, true, false, IsTrue, List, [], ◌∷◌, length, slice_get, Some, refl, sym, subst, ap, ◌∙◌, arith}
+use Rattle.std.proofs.Common.{◌≡◌, ◌↔◌, ℕ, zero, suc, ◌<◌, ℤ, pos, ◌-ℤ◌, Bool, IsTrue, List, [], ◌∷◌, length, slice_get, refl, sym, subst, ap, arith}
 use Rattle.std.proofs.lemmas.Int.{ints}
-use Rattle.std.specs.List.{AllByRecursion}
-use Rattle.mn_model.specs.Domain.{IsValue}
 use Rattle.mn_model.specs.Lawful.{IsNear, IsNearTerm}
 use Rattle.mn_model.specs.Parts.{places}
 use Rattle.mn_model.specs.Variable.{number_of}

@@ -1,5 +1,5 @@
 -- Cuts by the ends of the other place, and what follows them.
-use Rattle.std.proofs.Common.{◌≡◌, ℤ, ◌≤ℤ◌, List, Result, Ok, Err, IsErr, refl, sym, subst, arith}
+use Rattle.std.proofs.Common.{◌≡◌, ℤ, ◌≤ℤ◌, List, Result, Ok, Err, IsErr, sym, subst, arith}
 use Rattle.std.proofs.lemmas.Int.{ints}
 use Rattle.mn_model.specs.declared.constraint.Con.{Con}
 use Rattle.mn_model.specs.declared.constraint.Term.{Term}
@@ -10,7 +10,7 @@ use Rattle.mn_boxes.specs.Sets.{Variable}
 use Rattle.mn_domains.specs.Sets.{Sets}
 use Rattle.mn_closure.specs.Closed.{LeafClosed}
 use Rattle.mn_closure.specs.Levels.{level}
-use Rattle.mn_prop.specs.Contexts.{IsGreatestAt, IsLeastAt, IsNamed}
+use Rattle.mn_prop.specs.Contexts.{IsGreatestAt, IsLeastAt}
 use Rattle.mn_prop.specs.Passes.{AtLeastAt, AtMostAt, IsReady, IsStep, OnlyTakes}
 use Rattle.mn_prop.specs.declared.context.Fail.{Fail}
 use Rattle.mn_prop.proofs.Ready.{ready_named}
@@ -48,7 +48,7 @@ narrows_stop Q old mid (Err f) fail is narrows (Ok done) err = cc
 narrows_stop Q old mid (Err f) fail is narrows (Err g) err = failing Q old mid g narrows.takes narrows.fail
 
 -- all between two values of a span is in it
-between : (s : Span) (low high a : ℤ) → IsIn s low → IsIn s high → low ≤ℤ a → a ≤ℤ high → IsIn s a
+pub between : (s : Span) (low high a : ℤ) → IsIn s low → IsIn s high → low ≤ℤ a → a ≤ℤ high → IsIn s a
 between s low high a one another from to = (let le = one.0 in omega (arith, ints, le, from), let le = another.1 in omega (arith, ints, le, to))
 
 -- what the ends of the other place leave

@@ -1,5 +1,5 @@
 -- The values under which a constraint is asked as a whole.
-use Rattle.std.specs.Prelude.{◌≡◌, ◌≢◌, ℕ, ◌≤◌, nat_eq, ℤ, ◌⊎◌, Bool, true, false, if◌then◌else◌, List, length, Option, Some, None}
+use Rattle.std.specs.Prelude.{◌≡◌, ◌≢◌, ℕ, ◌<◌, ◌≤◌, nat_eq, ℤ, ◌⊎◌, Bool, true, false, if◌then◌else◌, List, length, Option, Some, None}
 use Rattle.mn_model.specs.Domain.{IsValue}
 use Rattle.mn_model.specs.Parts.{places}
 use Rattle.mn_model.specs.Variable.{number_of}
@@ -37,6 +37,11 @@ OthersAlone c i sets = (j : ℕ) (t : Term) → StandsAt c j t → j ≢ i → I
 -- whichever place is left out, another one has several values
 abbrev pub AlwaysOtherOpen : Con → List (List ℤ) → Type 0
 AlwaysOtherOpen c sets = (i : ℕ) → OtherOpen c i sets
+
+-- the place that alone may have several values. None where two have
+abbrev pub IsLeft : Con → List (List ℤ) → Option ℕ → Type 0
+IsLeft c sets None = AlwaysOtherOpen c sets
+IsLeft c sets (Some j) = (j < length (places c)) × OthersAlone c j sets
 
 -- the forms of two places that are narrowed to the values which stand in a choice
 abbrev pub is_pair : Con → Bool

@@ -2,7 +2,11 @@
 ghost use Rattle.std.specs.Prelude.{◌≡◌, IfOk};
 ghost use Rattle.mn_closure.specs.Closed.{LeafClosed};
 ghost use Rattle.mn_prop.specs.Passes.{IsReady, IsStep};
+ghost use Rattle.mn_basic.specs.Basics.{constraint_of, lists_of};
+ghost use Rattle.mn_basic.specs.Literals.{literal_of};
 
+use crate::literal::Literal;
+use crate::numbers::Numbers;
 use crate::pair::Pair;
 use crate::relation::Relation;
 use crate::whole::Whole;
@@ -14,15 +18,30 @@ use std::alloc::{AllocError, Global};
 /// What narrows one constraint, of any form.
 #[derive(Drop)]
 pub enum Basic<'a> {
+    /// A constraint of one place.
+    Literal(Literal<'a>),
     /// A relation of two places.
     Pair(Pair<'a>),
     /// Any other constraint, asked as a whole.
     Whole(Whole<'a>),
 }
 
-impl<'a> Basic<'a> {
-    ghost use Rattle.mn_basic.specs.Basics.{constraint_of, lists_of};
+// What narrows a constraint that lets these numbers stand at a place.
+fn literal<'a>(
+    alloc: Global,
+    inst: &'a Instance,
+    con: &'a Con,
+    numbers: Numbers<'a>,
+    x: Term,
+) -> Result<Basic<'a>, AllocError>
+    requires { con.now ≡ literal_of numbers x }
+    ensures con { IfOk result (λ b. constraint_of b ≡ con.now) }
+    ensures lists { IfOk result (λ b. lists_of b ≡ inst.now.tuples) }
+{
+    Ok(Basic::Literal(Literal::build(alloc, inst, con, numbers, x)?))
+}
 
+impl<'a> Basic<'a> {
     /// What narrows the constraint, beside the tuple lists of the instance.
     pub fn build(alloc: Global, inst: &'a Instance, con: &'a Con) -> Result<Basic<'a>, AllocError>
         ensures con { IfOk result (λ b. constraint_of b ≡ con.now) }
@@ -36,20 +55,32 @@ impl<'a> Basic<'a> {
             Con::Watchless(x, y) => Ok(Basic::Pair(Pair::new(Relation::Below, *x, *y, lists))),
             Con::Minuseq(x, y) => Ok(Basic::Pair(Pair::new(Relation::Opposite, *x, *y, lists))),
             Con::Abs(x, y) => Ok(Basic::Pair(Pair::new(Relation::Absolute, *x, *y, lists))),
+            Con::WLiteral(x, k) => literal(alloc, inst, con, Numbers::Is(*k), *x),
+            Con::WNotliteral(x, k) => literal(alloc, inst, con, Numbers::IsNot(*k), *x),
+            Con::WInset(x, ks) => literal(alloc, inst, con, Numbers::Among(ks), *x),
+            Con::WNotinset(x, ks) => literal(alloc, inst, con, Numbers::NotAmong(ks), *x),
+            Con::WInrange(x, lo, hi) => literal(alloc, inst, con, Numbers::Between(*lo, *hi), *x),
+            Con::WNotinrange(x, lo, hi) => literal(
+                alloc,
+                inst,
+                con,
+                Numbers::NotBetween(*lo, *hi),
+                *x,
+            ),
+            Con::WInintervalset(x, ends) => literal(alloc, inst, con, Numbers::Within(ends), *x),
             _ => Ok(Basic::Whole(Whole::build(alloc, inst, con)?)),
         }
     }
 }
 
 impl Basic<'_> {
-    ghost use Rattle.mn_basic.specs.Basics.{constraint_of, lists_of};
-
     // Takes values that aren't supported, or fails.
     fn narrow(&self, c: &mut Ctx) -> Result<(), Fail>
         requires { IsReady c.old.doms.vars (lists_of self.now) (constraint_of self.now) }
         ensures { IsStep (LeafClosed c.old.doms.vars (lists_of self.now) (constraint_of self.now)) c.old.doms c.new.doms result }
     {
         match self {
+            Basic::Literal(l) => l.narrow(c),
             Basic::Pair(p) => p.narrow(c),
             Basic::Whole(w) => w.narrow(c),
         }
@@ -57,14 +88,13 @@ impl Basic<'_> {
 }
 
 impl Runner for Basic<'_> {
-    ghost use Rattle.mn_basic.specs.Basics.{constraint_of, lists_of};
-
     ghost con = { constraint_of };
 
     ghost lists = { lists_of };
 
     fn places(&self) -> usize {
         match self {
+            Basic::Literal(l) => Leaf::places(&l.whole),
             Basic::Pair(p) => Leaf::places(p),
             Basic::Whole(w) => Leaf::places(w),
         }
@@ -72,6 +102,7 @@ impl Runner for Basic<'_> {
 
     fn term(&self, i: usize) -> Term {
         match self {
+            Basic::Literal(l) => Leaf::term(&l.whole, i),
             Basic::Pair(p) => Leaf::term(p, i),
             Basic::Whole(w) => Leaf::term(w, i),
         }

@@ -1,5 +1,5 @@
 //! The numbers that a relation leaves to one place, by the ends of the other.
-ghost use Rattle.std.specs.Prelude.{◌≤ℤ◌, ℤ, neg_ℤ, pos};
+ghost use Rattle.std.specs.Prelude.{◌≡◌, ◌≤ℤ◌, ◌⊎◌, ℤ, neg_ℤ, pos};
 ghost use Rattle.std.proofs.Common.{nat_abs};
 ghost use Rattle.mn_prop.specs.Contexts.{IsNamed};
 ghost use Rattle.mn_prop.specs.Passes.{IsStep};
@@ -7,6 +7,43 @@ ghost use Rattle.mn_prop.specs.Passes.{IsStep};
 use crate::relation::Relation;
 use mn_model::Term;
 use mn_prop::{Ctx, Fail, cut_hi, cut_lo};
+
+fn less(a: i128, b: i128) -> i128
+    ensures first { result ≤ℤ a }
+    ensures second { result ≤ℤ b }
+    ensures one { (result ≡ a) ⊎ (result ≡ b) }
+{
+    if a < b { a } else { b }
+}
+
+fn greater(a: i128, b: i128) -> i128
+    ensures first { a ≤ℤ result }
+    ensures second { b ≤ℤ result }
+    ensures one { (result ≡ a) ⊎ (result ≡ b) }
+{
+    if a < b { b } else { a }
+}
+
+// The next number that isn't one of those from one to another, and the one before them.
+fn above(a: i128, from: i64, to: i64) -> i128
+    ensures { (b : ℤ) → a ≤ℤ b → ((from ≤ℤ b) × (b ≤ℤ to) → ⊥) → result ≤ℤ b }
+{
+    if i128::from(from) <= a && a <= i128::from(to) {
+        i128::from(to) + 1
+    } else {
+        a
+    }
+}
+
+fn below(a: i128, from: i64, to: i64) -> i128
+    ensures { (b : ℤ) → b ≤ℤ a → ((from ≤ℤ b) × (b ≤ℤ to) → ⊥) → b ≤ℤ result }
+{
+    if i128::from(from) <= a && a <= i128::from(to) {
+        i128::from(from) - 1
+    } else {
+        a
+    }
+}
 
 /// All numbers from one to another.
 #[derive(Clone, Copy, Debug, PartialEq, Eq)]
@@ -23,10 +60,45 @@ impl Span {
     pub(crate) fn of(lo: i64, hi: i64) -> Span
         ensures small { IsSmall result }
         ensures all { (b : ℤ) → lo ≤ℤ b → b ≤ℤ hi → IsIn result b }
+        ensures only { (b : ℤ) → IsIn result b → (lo ≤ℤ b) × (b ≤ℤ hi) }
     {
         Span {
             lo: i128::from(lo),
             hi: i128::from(hi),
+        }
+    }
+
+    /// No number of an i64 but those that are added.
+    pub(crate) fn empty() -> Span {
+        Span {
+            lo: i128::from(i64::MAX),
+            hi: i128::from(i64::MIN),
+        }
+    }
+
+    /// With what a part and another span have in common, and all that is between.
+    pub(crate) fn with(self, part: Span, own: Span) -> Span
+        ensures before { (b : ℤ) → IsIn self b → IsIn result b }
+        ensures added { (b : ℤ) → IsIn part b → IsIn own b → IsIn result b }
+    {
+        let lo = greater(part.lo, own.lo);
+        let hi = less(part.hi, own.hi);
+        if hi < lo {
+            return self;
+        }
+        Span {
+            lo: less(self.lo, lo),
+            hi: greater(self.hi, hi),
+        }
+    }
+
+    /// Without the numbers from one to another, where they stand at an end.
+    pub(crate) fn without(self, from: i64, to: i64) -> Span
+        ensures { (b : ℤ) → IsIn self b → ((from ≤ℤ b) × (b ≤ℤ to) → ⊥) → IsIn result b }
+    {
+        Span {
+            lo: above(self.lo, from, to),
+            hi: below(self.hi, from, to),
         }
     }
 

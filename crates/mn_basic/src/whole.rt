@@ -1,16 +1,16 @@
 //! Constraints that are asked as a whole.
-ghost use Rattle.std.specs.Prelude.{◌≡◌, IfOk, false, true};
+ghost use Rattle.std.specs.Prelude.{◌≡◌, [], IfOk, false, true};
 ghost use Rattle.mn_model.specs.Parts.{places};
 ghost use Rattle.mn_closure.specs.Closed.{LeafClosed};
 ghost use Rattle.mn_closure.specs.Supports.{OtherOpen};
 ghost use Rattle.mn_prop.specs.Passes.{IsReady, IsStep};
-ghost use Rattle.mn_basic.specs.Trials.{AlwaysOtherOpen, OthersAlone, is_pair};
+ghost use Rattle.mn_basic.specs.Trials.{IsLeft, OthersAlone, is_pair};
 
 use crate::placing::places_in;
 use crate::trial::Trial;
 use mn_meaning::{Assigned, holds_beside};
 use mn_model::{Con, Instance, Term, Tuples};
-use mn_prop::{Ctx, Fail, Leaf, sweep};
+use mn_prop::{Ctx, Fail, Leaf, sweep_place};
 use std::alloc::{AllocError, Global};
 
 /// A constraint whose values are tested once all places but one have one value alone.
@@ -48,24 +48,33 @@ impl<'a> Whole<'a> {
         ensures { IsStep (LeafClosed c.old.doms.vars self.now.lists.now self.now.con.now) c.old.doms c.new.doms result }
     {
         c.lawful();
-        if self.are_several_open(c) {
+        if !self.bare() {
+            return Err(Fail);
+        }
+        if self.terms.is_empty() {
             return Ok(());
         }
-        sweep(self, c)
+        match self.place_left(c) {
+            Some(j) => sweep_place(self, c, j),
+            None => Ok(()),
+        }
     }
 
-    // Whether two places have several values, so that every value of every place is supported.
-    fn are_several_open(&self, c: &Ctx) -> bool
-        requires { IsReady c.now.doms.vars self.now.lists.now self.now.con.now }
-        ensures { result ≡ true → AlwaysOtherOpen self.now.con.now c.now.doms.sets }
+    // The place that alone may have several values, the first one where none has. None where two have, so that every value
+    // of every place is supported.
+    fn place_left(&self, c: &Ctx) -> Option<usize>
+        requires ready { IsReady c.now.doms.vars self.now.lists.now self.now.con.now }
+        requires filled { places self.now.con.now ≡ [] → ⊥ }
+        ensures { IsLeft self.now.con.now c.now.doms.sets result }
     {
         c.lawful();
         for (j, t) in self.terms.iter().enumerate() {
             if !c.is_single(*t) {
-                return self.is_other_open(c, j);
+                let several = self.is_other_open(c, j);
+                return if several { None } else { Some(j) };
             }
         }
-        false
+        Some(0)
     }
 
     // Whether a place other than `i` has several values.

@@ -7,7 +7,7 @@ use Rattle.mn_model.specs.declared.constraint.Term.{Term}
 use Rattle.mn_model.specs.declared.declaration.Tuples.{Tuples}
 use Rattle.mn_meaning.specs.Meaning.{Meets}
 use Rattle.mn_closure.specs.Levels.{Hull, level}
-use Rattle.mn_closure.specs.Supports.{ChoiceWith, StandsAt, Supported}
+use Rattle.mn_closure.specs.Supports.{StandsAt, Supported}
 use Rattle.mn_prop.specs.Passes.{HasAt}
 
 -- what is known of it

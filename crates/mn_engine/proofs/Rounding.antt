@@ -1,16 +1,38 @@
 -- A round of passes, and rounds until nothing changes.
-use Rattle.std.proofs.Common.{◌≡◌, ℕ, zero, suc, ◌+◌, ◌<◌, ◌≤◌, ℤ, List, [], ◌∷◌, length, map, take, get_or, slice_get, slice_set, Some, Result, Ok, Err, IsErr, refl, sym, subst, ap, ◌∙◌, add-one, arith}
-use Rattle.std.proofs.lemmas.Option.{slice_get_read}
-use Rattle.std.specs.List.{AllByRecursion, AllZip}
+use Rattle.std.proofs.Common.{◌≡◌, ℕ, zero, suc, ◌+◌, ◌<◌, ◌≤◌, ℤ, inl, inr, Bool, true, false, List, [], ◌∷◌, length, slice_get, slice_set, Some, Result, Ok, Err, IsErr, refl, sym, subst, ap, ◌∙◌, arith}
+use Rattle.std.proofs.lemmas.Option.{slice_get_within}
+use Rattle.std.specs.List.{AllByRecursion}
+use Rattle.mn_model.specs.Decided.{Decided, decide_nat}
 use Rattle.mn_model.specs.declared.constraint.Con.{Con}
 use Rattle.mn_model.specs.declared.declaration.Tuples.{Tuples}
-use Rattle.mn_boxes.specs.Boxes.{Inside, IsBox, count_of}
+use Rattle.mn_boxes.specs.Boxes.{IsBox}
 use Rattle.mn_boxes.specs.Sets.{Variable}
 use Rattle.mn_domains.specs.Sets.{Sets}
-use Rattle.mn_prop.specs.Passes.{ClosedUnder, IsReady, IsStep, NoneHas, OnlyTakes}
+use Rattle.mn_prop.specs.Passes.{ClosedUnder, IsReady, IsStep}
 use Rattle.mn_prop.specs.declared.context.Fail.{Fail}
 use Rattle.mn_prop.proofs.Going.{Going, arrives, begins, goes_on, goes_wrong, same_before}
-use Rattle.mn_engine.specs.Settling.{AreAlike, AreReady, ClosedEach, IsSettled}
+use Rattle.mn_engine.specs.Settling.{AreAlike, AreReady, ClosedEach, ComesAt, IsSettled}
+
+-- the place k is among the first i of so many, from the first one or from the last
+abbrev pub IsPast : Bool → ℕ → ℕ → ℕ → Type 0
+IsPast false len i k = k < i
+IsPast true len i k = len ≤ (k + i)
+
+none_past : (back : Bool) (len k : ℕ) → k < len → IsPast back len 0 k → ⊥
+none_past false len k within past = omega (arith, past)
+none_past true len k within past = omega (arith, within, past)
+
+one_past : (back : Bool) (len i at k : ℕ) → ComesAt back len i at → IsPast back len (i + 1) k → (k ≡ at → ⊥) → IsPast back len i k
+one_past false len i at k comes past differs = omega (arith, comes, past, differs)
+one_past true len i at k comes past differs = omega (arith, comes, past, differs)
+
+all_past : (back : Bool) (len n k : ℕ) → len ≤ n → k < len → IsPast back len n k
+all_past false len n k le within = omega (arith, le, within)
+all_past true len n k le within = omega (arith, le, within)
+
+pub comes_within : (back : Bool) (len i at : ℕ) → i < len → ComesAt back len i at → at < len
+comes_within false len i at below comes = omega (arith, below, comes)
+comes_within true len i at below comes = omega (arith, below, comes)
 
 module _ {P : Type 0} (con_of : P → Con) (lists_of : P → List Tuples) where
   pub alike_itself : (xs : List P) → AreAlike con_of lists_of xs xs
@@ -58,16 +80,9 @@ module _ {P : Type 0} (con_of : P → Con) (lists_of : P → List Tuples) where
   all_at Q (y ∷ xs) zero x all at = let is : y ≡ x = cc in subst Q is all.0
   all_at Q (y ∷ xs) (suc i) x all at = all_at Q xs i x all.1 at
 
-  all_take : (Q : P → Type 0) (xs : List P) (i : ℕ) (x : P) → AllByRecursion Q (take i xs) → slice_get xs i ≡ Some x → Q x → AllByRecursion Q (take (suc i) xs)
-  all_take Q [] i x all at here = cc
-  all_take Q (y ∷ xs) zero x all at here = let is : y ≡ x = cc in (subst Q (sym is) here, tt)
-  all_take Q (y ∷ xs) (suc i) x all at here = (all.0, all_take Q xs i x all.1 at here)
-
-  pub take_all : (xs : List P) (n : ℕ) → length xs ≤ n → take n xs ≡ xs
-  take_all [] zero le = refl
-  take_all [] (suc n) le = refl
-  take_all (x ∷ xs) zero le = absurd (omega (arith, le))
-  take_all (x ∷ xs) (suc n) le = ap (λ ys. x ∷ ys) (take_all xs n (omega (arith, le)))
+  all_from : (Q : P → Type 0) (xs : List P) → ((k : ℕ) (x : P) → slice_get xs k ≡ Some x → Q x) → AllByRecursion Q xs
+  all_from Q [] each = tt
+  all_from Q (x ∷ xs) each = (each 0 x refl, all_from Q xs (λ k y at. each (suc k) y at))
 
   -- what the lists of runners say of each other's boxes
   pub ready_alike : (vars : List Variable) (xs ys : List P) → AreAlike con_of lists_of xs ys → AreReady con_of lists_of vars xs → AreReady con_of lists_of vars ys
@@ -93,53 +108,63 @@ module _ {P : Type 0} (con_of : P → Con) (lists_of : P → List Tuples) where
 
   -- ---- a round
 
-  -- the first i of the propagators have passed
-  pub record Passing (xs ys : List P) (old now : Sets) (i : ℕ) : Type 0 where
+  -- the first i of the propagators have passed, in order or in the other direction
+  pub record Passing (back : Bool) (xs ys : List P) (old now : Sets) (i : ℕ) : Type 0 where
     pub alike : AreAlike con_of lists_of xs ys
     pub going : Going (ClosedEach con_of lists_of old.vars xs) old now
-    pub still : now.sets ≡ old.sets → ClosedEach con_of lists_of old.vars (take i xs) old.sets
+    pub still : now.sets ≡ old.sets → (k : ℕ) (x : P) → slice_get xs k ≡ Some x → IsPast back (length xs) i k → ClosedUnder old.vars (lists_of x) (con_of x) old.sets
 
-  pub none_passed : (xs : List P) (s : Sets) → Passing xs xs s s 0
-  none_passed xs s = record { alike = alike_itself xs; going = begins (ClosedEach con_of lists_of s.vars xs) s; still = λ same. nothing xs }
+  pub none_passed : (back : Bool) (xs : List P) (s : Sets) → Passing back xs xs s s 0
+  none_passed back xs s = record { alike = alike_itself xs; going = begins (ClosedEach con_of lists_of s.vars xs) s; still = λ same k x at past. absurd (none_past back (length xs) k (slice_get_within xs k x at) past) }
+
+  -- the one at a place is ready, and a box that is closed under each is closed under it
+  pub is_ready : (back : Bool) (xs ys : List P) (old now : Sets) (i m : ℕ) (y : P) → Passing back xs ys old now i → AreReady con_of lists_of old.vars xs → slice_get ys m ≡ Some y → IsReady now.vars (lists_of y) (con_of y)
+  is_ready back xs ys old now i m y passing ready at =
+      subst (λ vars. IsReady vars (lists_of y) (con_of y)) (sym passing.going.takes.vars) (all_at (λ p. IsReady old.vars (lists_of p) (con_of p)) ys m y (ready_alike old.vars xs ys passing.alike ready) at)
+
+  closed_here : (back : Bool) (xs ys : List P) (old now : Sets) (i m : ℕ) (y : P) → Passing back xs ys old now i → slice_get ys m ≡ Some y → (box : List (List ℤ)) → ClosedEach con_of lists_of old.vars xs box → ClosedUnder now.vars (lists_of y) (con_of y) box
+  closed_here back xs ys old now i m y passing at box closed =
+      subst (λ vars. ClosedUnder vars (lists_of y) (con_of y) box) (sym passing.going.takes.vars) (all_at (λ p. ClosedUnder old.vars (lists_of p) (con_of p) box) ys m y (closed_alike old.vars xs ys box passing.alike closed) at)
+
+  -- where nothing is gone, the box is closed under the one that passes too
+  still_closed : (back : Bool) (xs ys : List P) (old now new : Sets) (i m : ℕ) (y : P) (done : Unit {0}) → Passing back xs ys old now i → IsBox old.vars old.sets → IsBox now.vars now.sets → ComesAt back (length xs) i m → slice_get ys m ≡ Some y
+      → IsStep (ClosedUnder now.vars (lists_of y) (con_of y)) now new (Ok done) → new.sets ≡ old.sets → (k : ℕ) (x : P) → slice_get xs k ≡ Some x → IsPast back (length xs) (i + 1) k → ClosedUnder old.vars (lists_of x) (con_of x) old.sets
+  still_closed back xs ys old now new i m y done passing is_old is_now comes at step same_sets k x stands past = by (decide_nat k m)
     where
-      nothing : (zs : List P) → ClosedEach con_of lists_of s.vars (take 0 zs) s.sets
-      nothing [] = tt
-      nothing (z ∷ zs) = tt
+      before : now.sets ≡ old.sets
+      before = same_before (ClosedEach con_of lists_of old.vars xs) old now new is_old is_now passing.going step.takes same_sets
 
-  -- the one at place i is ready, and a box that is closed under each is closed under it
-  pub is_ready : (xs ys : List P) (old now : Sets) (i : ℕ) (y : P) → Passing xs ys old now i → AreReady con_of lists_of old.vars xs → slice_get ys i ≡ Some y → IsReady now.vars (lists_of y) (con_of y)
-  is_ready xs ys old now i y passing ready at =
-      subst (λ vars. IsReady vars (lists_of y) (con_of y)) (sym passing.going.takes.vars) (all_at (λ p. IsReady old.vars (lists_of p) (con_of p)) ys i y (ready_alike old.vars xs ys passing.alike ready) at)
-
-  closed_here : (xs ys : List P) (old now : Sets) (i : ℕ) (y : P) → Passing xs ys old now i → slice_get ys i ≡ Some y → (box : List (List ℤ)) → ClosedEach con_of lists_of old.vars xs box → ClosedUnder now.vars (lists_of y) (con_of y) box
-  closed_here xs ys old now i y passing at box closed =
-      subst (λ vars. ClosedUnder vars (lists_of y) (con_of y) box) (sym passing.going.takes.vars) (all_at (λ p. ClosedUnder old.vars (lists_of p) (con_of p) box) ys i y (closed_alike old.vars xs ys box passing.alike closed) at)
+      by : Decided (k ≡ m) → ClosedUnder old.vars (lists_of x) (con_of x) old.sets
+      by (inl same) =
+          let first = stood_at xs ys m y passing.alike at in
+          let here : ClosedUnder now.vars (lists_of y) (con_of y) now.sets = step.still (same_sets ∙ sym before) in
+          let there : ClosedUnder old.vars (lists_of y) (con_of y) old.sets = subst (ClosedUnder old.vars (lists_of y) (con_of y)) before (subst (λ vars. ClosedUnder vars (lists_of y) (con_of y) now.sets) passing.going.takes.vars here) in
+          let under : ClosedUnder old.vars (lists_of first.first) (con_of first.first) old.sets = subst (λ lists. ClosedUnder old.vars lists (con_of first.first) old.sets) first.lists_are (subst (λ c. ClosedUnder old.vars (lists_of y) c old.sets) first.con_is there) in
+          subst (λ p. ClosedUnder old.vars (lists_of p) (con_of p) old.sets) (same_one first.first (subst (λ n. slice_get xs n ≡ Some x) same stands) first.stood) under
+        where
+          same_one : (p : P) → slice_get xs m ≡ Some x → slice_get xs m ≡ Some p → p ≡ x
+          same_one p one another = cc
+      by (inr differs) = passing.still before k x stands (one_past back (length xs) i m k comes past differs)
 
   -- it passes
-  pub passes : (xs ys : List P) (old now new : Sets) (i : ℕ) (y z : P) (done : Unit {0}) → Passing xs ys old now i → IsBox old.vars old.sets → IsBox now.vars now.sets → slice_get ys i ≡ Some y → con_of z ≡ con_of y → lists_of z ≡ lists_of y
-      → IsStep (ClosedUnder now.vars (lists_of y) (con_of y)) now new (Ok done) → Passing xs (slice_set ys i z) old new (i + 1)
-  passes xs ys old now new i y z done passing is_old is_now at same same_lists step =
-      let first = stood_at xs ys i y passing.alike at in
-      record {
-        alike = alike_set xs ys i y z passing.alike at same same_lists;
-        going = goes_on (ClosedEach con_of lists_of old.vars xs) (ClosedUnder now.vars (lists_of y) (con_of y)) old now new done passing.going (λ box is inside closed. closed_here xs ys old now i y passing at box closed) step;
-        still = λ same_sets.
-            (let before : now.sets ≡ old.sets = same_before (ClosedEach con_of lists_of old.vars xs) old now new is_old is_now passing.going step.takes same_sets in
-            let here : ClosedUnder now.vars (lists_of y) (con_of y) now.sets = step.still (same_sets ∙ sym before) in
-            let there : ClosedUnder old.vars (lists_of y) (con_of y) old.sets = subst (ClosedUnder old.vars (lists_of y) (con_of y)) before (subst (λ vars. ClosedUnder vars (lists_of y) (con_of y) now.sets) passing.going.takes.vars here) in
-            let under : ClosedUnder old.vars (lists_of first.first) (con_of first.first) old.sets = subst (λ lists. ClosedUnder old.vars lists (con_of first.first) old.sets) first.lists_are (subst (λ c. ClosedUnder old.vars (lists_of y) c old.sets) first.con_is there) in
-            subst (λ n. ClosedEach con_of lists_of old.vars (take n xs) old.sets) (sym (add-one i)) (all_take (λ p. ClosedUnder old.vars (lists_of p) (con_of p) old.sets) xs i first.first (passing.still before) first.stood under));
-      }
+  pub passes : (back : Bool) (xs ys : List P) (old now new : Sets) (i m : ℕ) (y z : P) (done : Unit {0}) → Passing back xs ys old now i → IsBox old.vars old.sets → IsBox now.vars now.sets → ComesAt back (length xs) i m → slice_get ys m ≡ Some y → con_of z ≡ con_of y → lists_of z ≡ lists_of y
+      → IsStep (ClosedUnder now.vars (lists_of y) (con_of y)) now new (Ok done) → Passing back xs (slice_set ys m z) old new (i + 1)
+  passes back xs ys old now new i m y z done passing is_old is_now comes at same same_lists step = record {
+    alike = alike_set xs ys m y z passing.alike at same same_lists;
+    going = goes_on (ClosedEach con_of lists_of old.vars xs) (ClosedUnder now.vars (lists_of y) (con_of y)) old now new done passing.going (λ box is inside closed. closed_here back xs ys old now i m y passing at box closed) step;
+    still = λ same_sets. still_closed back xs ys old now new i m y done passing is_old is_now comes at step same_sets;
+  }
 
   -- or fails
-  pub fails : (xs ys : List P) (old now new : Sets) (i : ℕ) (y : P) (fail : Fail) (end : Result (Unit {0}) Fail) → Passing xs ys old now i → slice_get ys i ≡ Some y → IsStep (ClosedUnder now.vars (lists_of y) (con_of y)) now new (Err fail) → IsErr end
+  pub fails : (back : Bool) (xs ys : List P) (old now new : Sets) (i m : ℕ) (y : P) (fail : Fail) (end : Result (Unit {0}) Fail) → Passing back xs ys old now i → slice_get ys m ≡ Some y → IsStep (ClosedUnder now.vars (lists_of y) (con_of y)) now new (Err fail) → IsErr end
       → IsStep (ClosedEach con_of lists_of old.vars xs) old new end
-  fails xs ys old now new i y fail end passing at step err =
-      goes_wrong (ClosedEach con_of lists_of old.vars xs) (ClosedUnder now.vars (lists_of y) (con_of y)) old now new fail end passing.going (λ box is inside closed. closed_here xs ys old now i y passing at box closed) step err
+  fails back xs ys old now new i m y fail end passing at step err =
+      goes_wrong (ClosedEach con_of lists_of old.vars xs) (ClosedUnder now.vars (lists_of y) (con_of y)) old now new fail end passing.going (λ box is inside closed. closed_here back xs ys old now i m y passing at box closed) step err
 
-  pub all_passed : (xs ys : List P) (old now : Sets) (n : ℕ) → length xs ≤ n → Passing xs ys old now n → IsStep (ClosedEach con_of lists_of old.vars xs) old now (Ok tt)
-  all_passed xs ys old now n le passing =
-      arrives (ClosedEach con_of lists_of old.vars xs) old now passing.going (λ same. subst (λ zs. ClosedEach con_of lists_of old.vars zs old.sets) (take_all xs n le) (passing.still same))
+  pub all_passed : (back : Bool) (xs ys : List P) (old now : Sets) (n : ℕ) → length xs ≤ n → Passing back xs ys old now n → IsStep (ClosedEach con_of lists_of old.vars xs) old now (Ok tt)
+  all_passed back xs ys old now n le passing =
+      arrives (ClosedEach con_of lists_of old.vars xs) old now passing.going
+      (λ same. all_from (λ p. ClosedUnder old.vars (lists_of p) (con_of p) old.sets) xs (λ k x at. passing.still same k x at (all_past back (length xs) n k le (slice_get_within xs k x at))))
 
   -- ---- rounds
 

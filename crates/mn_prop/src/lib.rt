@@ -22,4 +22,4 @@ pub use cuts::{cut_hi, cut_lo};
 pub use laws::lawful_constraints_are_ready;
 pub use leaf::Leaf;
 pub use runner::{Make, Runner};
-pub use sweeps::sweep;
+pub use sweeps::{sweep, sweep_place};

@@ -110,8 +110,9 @@ fn asks_each<L: Leaf>(leaf: &L, c: &Ctx, t: Term) -> bool
     goes_inside(c, t)
 }
 
-// Narrows one place.
-fn sweep_place<L: Leaf>(leaf: &L, c: &mut Ctx, i: usize) -> Result<(), Fail>
+/// Takes each value of one place that isn't supported. Of a place that loses values at its ends alone the ends are taken,
+/// until they are supported.
+pub fn sweep_place<L: Leaf>(leaf: &L, c: &mut Ctx, i: usize) -> Result<(), Fail>
     requires ready { IsReady c.old.doms.vars (L.lists leaf.now) (L.con leaf.now) }
     requires within { i < length (places (L.con leaf.now)) }
     ensures { IsStep (PlaceClosed c.old.doms.vars (L.lists leaf.now) (L.con leaf.now) i) c.old.doms c.new.doms result }

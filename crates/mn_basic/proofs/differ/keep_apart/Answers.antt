@@ -1,4 +1,4 @@
-use Rattle.std.proofs.Common.{◌≡◌, ◌∙◌, FitsSigned, rules, sym, subst, w64}
+use Rattle.std.proofs.Common.{FitsSigned, rules, sym, subst, w64}
 use Rattle.std.proofs.lemmas.Int.{to_z-of_z}
 use Rattle.mn_closure.specs.Closed.{IsAlone}
 use Rattle.mn_basic.proofs.Dropped.{apart_step, open_apart}

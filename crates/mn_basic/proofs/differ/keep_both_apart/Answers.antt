@@ -1,6 +1,3 @@
-use Rattle.std.proofs.Common.{refl}
-use Rattle.mn_prop.proofs.Stepping.{then_step}
-use Rattle.mn_basic.specs.Pairs.{IsApart}
 use Rattle.mn_basic.proofs.Dropped.{again_apart}
 use Rattle.mn_basic.proofs.Ordered.{named_after}
 use Rattle.mn_basic.proofs.differ.keep_both_apart.Goals as goal

@@ -1,9 +1,7 @@
-use Rattle.std.proofs.Common.{◌≡◌, ◌+ℤ◌, ◌-ℤ◌, FitsSigned, rules, subst, sym, w64, arith}
+use Rattle.std.proofs.Common.{FitsSigned, rules, w64, arith}
 use Rattle.std.specs.Int.{w128}
 use Rattle.std.proofs.lemmas.Int.{ints, to_z-of_z}
 use Rattle.std.proofs.lemmas.Result.{err_from_is_err_and}
-use Rattle.mn_boxes.specs.Boxes.{IsBox}
-use Rattle.mn_prop.specs.Passes.{AtMostAt, AtLeastAt, IsStep}
 use Rattle.mn_basic.proofs.Ordered.{is_err, named_after, none_below_itself, order_step, order_stop}
 use Rattle.mn_basic.proofs.order.put_in_order.Goals as goal
 

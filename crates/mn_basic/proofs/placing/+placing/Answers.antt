@@ -1,9 +1,7 @@
-use Rattle.std.proofs.Common.{◌≡◌, ◌++◌, ◌≤◌, ◌<◌, ◌∷◌, [], OnOk, ap, sym, subst, ◌∙◌, arith}
-use Rattle.mn_model.specs.Parts.{places, places_of}
+use Rattle.std.proofs.Common.{◌++◌, ap, ◌∙◌, arith}
 use Rattle.mn_model.specs.declared.constraint.Cons.{size-Cons}
-use Rattle.mn_model.specs.declared.constraint.Con.{size-Con}
-use Rattle.mn_model.proofs.Children.{others_below, first_below}
-use Rattle.mn_basic.proofs.Placed.{ended, implied_places, more_places, negated_places, no_more_places, reified_places}
+use Rattle.mn_model.proofs.Children.{others_below}
+use Rattle.mn_basic.proofs.Placed.{ended, implied_places, more_places, negated_places, reified_places}
 use Rattle.mn_basic.proofs.placing.+placing.Goals as goal
 
 pub add_places-returns-in_ok-add_places-in-Reify : goal.add_places-returns-in_ok-add_places-in-Reify

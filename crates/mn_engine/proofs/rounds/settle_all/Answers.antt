@@ -1,4 +1,4 @@
-use Rattle.std.proofs.Common.{◌≡◌, ◌∙◌, ap, sym, arith}
+use Rattle.std.proofs.Common.{◌∙◌, ap, sym}
 use Rattle.mn_boxes.specs.Boxes.{count_of}
 use Rattle.mn_domains.specs.Sets.{Sets}
 use Rattle.mn_engine.proofs.Rounding.{alike_through, last_round, no_more, no_round, one_more, ready_again}

@@ -1,4 +1,4 @@
-use Rattle.std.proofs.Common.{refl, sym, w64}
+use Rattle.std.proofs.Common.{w64}
 use Rattle.std.proofs.lemmas.Int.{to_z-of_z}
 use Rattle.mn_prop.proofs.Ready.{ready_named}
 use Rattle.mn_basic.specs.Pairs.{pair_of}

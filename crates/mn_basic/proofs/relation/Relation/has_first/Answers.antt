@@ -1,4 +1,4 @@
-use Rattle.std.proofs.Common.{ℤ, ◌≤ℤ◌, ◌+ℤ◌, sym, subst, arith}
+use Rattle.std.proofs.Common.{sym, subst, arith}
 use Rattle.std.proofs.lemmas.Int.{ints}
 use Rattle.mn_basic.specs.Pairs.{Related}
 use Rattle.mn_basic.proofs.Paired.{told_through}

@@ -1,9 +1,8 @@
 use Rattle.std.proofs.Common.{pos, ◌-ℤ◌, Some, None, sym, subst, w64}
 use Rattle.std.proofs.lemmas.Int.{to_z-of_z}
 use Rattle.mn_model.specs.Variable.{number_of}
-use Rattle.mn_model.specs.declared.constraint.Term.TheVariants.{Var, Const, Not}
 use Rattle.mn_boxes.specs.Places.{PlaceHas}
-use Rattle.mn_prop.proofs.Valued.{less_fits, valued_at}
+use Rattle.mn_prop.proofs.Valued.{valued_at}
 use Rattle.mn_basic.specs.Trials.{IsTrial, tried_value}
 use Rattle.mn_basic.proofs.Tried.{const_trial, near_fits, not_trial, var_trial}
 use Rattle.mn_basic.proofs.trial.Trial.of.Goals as goal

@@ -1,4 +1,4 @@
-use Rattle.std.proofs.Common.{◌≡◌, ◌<◌, ◌≤◌, length, get_or, refl, sym, subst, ◌∙◌, arith}
+use Rattle.std.proofs.Common.{get_or, ◌∙◌, arith}
 use Rattle.mn_model.specs.declared.constraint.Term.TheVariants.{Var}
 use Rattle.mn_prop.proofs.Ready.{ready_named}
 use Rattle.mn_basic.proofs.Alone.{all_alone, one_more_alone, placed_at}

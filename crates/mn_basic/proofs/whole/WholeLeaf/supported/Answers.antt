@@ -1,8 +1,8 @@
-use Rattle.std.proofs.Common.{refl, w64}
+use Rattle.std.proofs.Common.{w64}
 use Rattle.std.proofs.lemmas.Int.{to_z-of_z}
 use Rattle.mn_basic.specs.Trials.{tried_value}
 use Rattle.mn_prop.proofs.Ready.{ready_named}
-use Rattle.mn_basic.proofs.Alone.{index_stands, open_supported, trial_tells, whole}
+use Rattle.mn_basic.proofs.Alone.{index_stands, trial_tells, whole}
 use Rattle.mn_basic.proofs.whole.WholeLeaf.supported.Goals as goal
 
 pub of-requires-clause-named : goal.of-requires-clause-named
