@@ -13,7 +13,7 @@ fn main(rt: HostRuntime) -> ExitCode {
     let mut files = DiskFiles::new(rt);
     let mut out = StdSink::new(rt);
     let status = match read_words(rt, &mut words) {
-        // Words that are no text are none that the program knows, and `run` says so of none at all.
+        // Words that are no text name no model, and `run` says so of none at all.
         Err(fault) if fault.kind() == ErrorKind::OutOfMemory => Status::NoMemory,
         _ => run(rt.alloc(), &words, &mut files, &mut out).status,
     };

@@ -1,28 +1,27 @@
 -- From what a run has told by its status, the clauses of the run.
-use Rattle.std.proofs.Common.{◌≡◌, ℕ, ◌<◌, ◌⊎◌, ◌↔◌, List, [], length, take, Option, IsSomeAnd, IfSome, Some, None, refl, sym, ap, subst, ◌∙◌, inl, inr, arith}
+use Rattle.std.proofs.Common.{◌≡◌, ℕ, ◌⊎◌, Bool, true, false, List, [], Option, IsSomeAnd, IfSome, Some, None, refl, sym, ap, subst, ◌∙◌, inl, inr}
 use Rattle.mn_model.specs.Problem.{Problem}
-use Rattle.mn_model.specs.declared.limits.TheConstants.{TEXT_BYTES}
 use Rattle.mn_model.specs.declared.refusal.Refusal.{Refusal}
-use Rattle.mn_model.specs.declared.refusal.Refusal.TheVariants.{Limit, Unsupported}
-use Rattle.mn_model.specs.declared.refusal.Which.TheVariants.{Text}
 use Rattle.mn_outside.specs.Content.{FileMap, file_at}
 use Rattle.mn_outside.specs.Faults.{HasRisen}
-use Rattle.mn_outside.specs.Reading.{line_ends}
-use Rattle.mn_reader.specs.Reads.{Reads}
+use Rattle.mn_language.specs.Texts.{IsRefused}
+use Rattle.mn_report.specs.Lines.{refused_text}
 use Rattle.mn_driver.specs.Counting.{HasNone}
-use Rattle.mn_driver.specs.Explains.{Solves, Refuses, Found, Lost, Explains}
+use Rattle.mn_driver.specs.Explains.{Answers, Dumps, Solves, Refuses, Found, Lost, Explains}
 use Rattle.mn_driver.specs.Loads.{Unloads}
-use Rattle.mn_driver.specs.Owes.{Yields, IsModelStatus, StoppedAt}
-use Rattle.mn_driver.specs.Report.{memory_line, read_line, too_long_line, unsupported_line, usage_line}
-use Rattle.mn_driver.specs.Runs.{AddsLine, Tells, HoldsModel, HoldsLongText, HoldsOtherText, IsAbsent, IsLong, IsOther, IsTheModel}
-use Rattle.mn_driver.specs.Written.{WritesReport, WritesSome}
+use Rattle.mn_driver.specs.Owes.{IsDumpStatus, Yields, IsModelStatus, StoppedAt}
+use Rattle.mn_driver.specs.Report.{memory_line, read_line, usage_line}
+use Rattle.mn_driver.specs.Runs.{AddsLine, Tells, HoldsModel, HoldsRefused, IsAbsent, IsTheModel, IsTheRefused}
+use Rattle.mn_driver.specs.Words.{Asked, asked, asked_unless}
+use Rattle.mn_driver.specs.Written.{CountsSolutions, IsCutOff, IsFrontOfReport, WritesReport}
 use Rattle.mn_driver.specs.declared.load.Unloaded.{Unloaded}
 use Rattle.mn_driver.specs.declared.load.Unloaded.TheVariants as unloads
 use Rattle.mn_driver.specs.declared.status.Counts.{Counts}
 use Rattle.mn_driver.specs.declared.status.Status.{Status}
-use Rattle.mn_driver.specs.declared.status.Status.TheVariants.{Complete, Refused, Usage, ReadFault, WriteFault, NoMemory}
-use Rattle.mn_driver.specs.declared.status.Usage.{Usage as Rule}
-use Rattle.mn_driver.specs.declared.status.Usage.TheVariants.{Unknown}
+use Rattle.mn_driver.specs.declared.status.Status.TheVariants.{Complete, Printed, Refused, Usage, ReadFault, WriteFault, DumpTooLong, NoMemory}
+use Rattle.mn_options.specs.Rules.{first_broken}
+use Rattle.mn_options.specs.declared.usage.Usage.{Usage as Rule}
+use Rattle.mn_driver.proofs.Verdicts.{OneVerdict, never_both, one_refusal_of}
 
 -- one text is told of a name
 some_text : {a b : List ℕ} → Some a ≡ Some b → a ≡ b
@@ -38,25 +37,13 @@ told_so : {P : Type 0} (told : Option FileMap) (files : FileMap) → told ≡ So
 told_so None files e holds = cc
 told_so (Some fs) files e holds = holds
 
--- a file that is longer than the limit, as it is told
-long_as : (files : FileMap) (name : List ℕ) (lines : ℕ) (found : Option (List ℕ)) → file_at files name ≡ found → IsSomeAnd found (λ file. (TEXT_BYTES < length file) × (lines ≡ line_ends (take TEXT_BYTES file))) → HoldsLongText (Some files) name
-long_as files name lines None e long = absurd long
-long_as files name lines (Some text) e long = (text, (files, refl, e), long.0)
-
-long_so : (told : Option FileMap) (files : FileMap) (name : List ℕ) (lines : ℕ) → told ≡ Some files → IsLong told name lines → HoldsLongText told name
-long_so None files name lines e long = cc
-long_so (Some fs) files name lines e long = long_as fs name lines (file_at fs name) refl long
-
--- what the named file holds is one of four, each without the others
+-- what the named file holds is one of three, each without the others
 module _ (told : Option FileMap) (name : List ℕ) where
-  model_not_long : (p : Problem) → HoldsModel told name p → HoldsLongText told name → ⊥
-  model_not_long p model (text, there, long) = let same = ap length (same_told told name model.text text model.there there) in let fits = model.fits in omega arith
+  model_not_refused : OneVerdict → (p : Problem) (why : Refusal) (line : ℕ) → HoldsModel told name p → HoldsRefused told name why line → ⊥
+  model_not_refused one p why line model refused = never_both one model.text p why model.reads (subst (λ text. IsRefused text why) (sym (same_told told name model.text refused.text model.there refused.there)) refused.refused)
 
-  model_not_other : (p : Problem) → HoldsModel told name p → HoldsOtherText told name → ⊥
-  model_not_other p model other = other.unread p (subst (λ text. Reads text p) (same_told told name model.text other.text model.there other.there) model.reads)
-
-  other_not_long : HoldsOtherText told name → HoldsLongText told name → ⊥
-  other_not_long other (text, there, long) = let same = ap length (same_told told name other.text text other.there there) in let fits = other.fits in omega arith
+  one_refusal : OneVerdict → (why other : Refusal) (line more : ℕ) → HoldsRefused told name why line → HoldsRefused told name other more → other ≡ why
+  one_refusal one why other line more refused also = one_refusal_of one refused.text why other refused.refused (subst (λ text. IsRefused text other) (sym (same_told told name refused.text also.text refused.there also.there)) also.refused)
 
   absent_not_told : IsAbsent told name → (text : List ℕ) → Tells told name text → ⊥
   absent_not_told (files, some, absent) text (more, also, here) =
@@ -67,51 +54,56 @@ module _ (told : Option FileMap) (name : List ℕ) where
 module _ (old new : Option (List ℕ)) (before after : ℕ) where
   not_complete : (why : Unloaded) → Refuses old new before after why Complete → ⊥
   not_complete unloads.Failed h = h
-  not_complete (unloads.TooLong lines) h = h
-  not_complete unloads.Other h = h
+  not_complete (unloads.Refused said line) h = h
   not_complete unloads.NoMemory h = h
 
   not_written : (why : Unloaded) → Refuses old new before after why WriteFault → ⊥
   not_written unloads.Failed h = h
-  not_written (unloads.TooLong lines) h = h
-  not_written unloads.Other h = h
+  not_written (unloads.Refused said line) h = h
   not_written unloads.NoMemory h = h
+
+  not_printed : (why : Unloaded) → Refuses old new before after why Printed → ⊥
+  not_printed unloads.Failed h = h
+  not_printed (unloads.Refused said line) h = h
+  not_printed unloads.NoMemory h = h
+
+  not_too_long : (why : Unloaded) (n : ℕ) → Refuses old new before after why (DumpTooLong n) → ⊥
+  not_too_long unloads.Failed n h = h
+  not_too_long (unloads.Refused said line) n h = h
+  not_too_long unloads.NoMemory n h = h
 
   not_misused : (why : Unloaded) (rule : Rule) → Refuses old new before after why (Usage rule) → ⊥
   not_misused unloads.Failed rule h = h
-  not_misused (unloads.TooLong lines) rule h = h
-  not_misused unloads.Other rule h = h
+  not_misused (unloads.Refused said line) rule h = h
   not_misused unloads.NoMemory rule h = h
 
   unread_line : (why : Unloaded) → Refuses old new before after why ReadFault → (why ≡ unloads.Failed) × AddsLine old new before after [] read_line
   unread_line unloads.Failed h = (refl, h)
-  unread_line (unloads.TooLong lines) h = absurd h
-  unread_line unloads.Other h = absurd h
+  unread_line (unloads.Refused said line) h = absurd h
   unread_line unloads.NoMemory h = absurd h
 
   no_memory_line : (why : Unloaded) → Refuses old new before after why NoMemory → AddsLine old new before after [] memory_line
   no_memory_line unloads.Failed h = h
-  no_memory_line (unloads.TooLong lines) h = h
-  no_memory_line unloads.Other h = h
+  no_memory_line (unloads.Refused said line) h = h
   no_memory_line unloads.NoMemory h = h
 
-  -- a refusal is one of two
+  -- a refusal is that of the text
   refused_as : (why : Unloaded) (refusal : Refusal) → Refuses old new before after why (Refused refusal)
-      → ((refusal ≡ Limit Text TEXT_BYTES) × ((lines : ℕ) × (why ≡ unloads.TooLong lines) × AddsLine old new before after [] (too_long_line lines)))
-      ⊎ ((refusal ≡ Unsupported 0) × (why ≡ unloads.Other) × AddsLine old new before after [] unsupported_line)
+      → (line : ℕ) × (why ≡ unloads.Refused refusal line) × AddsLine old new before after [] (refused_text refusal line)
   refused_as unloads.Failed refusal h = absurd h
-  refused_as (unloads.TooLong lines) refusal h = inl (h.0, (lines, refl, h.1))
-  refused_as unloads.Other refusal h = inr (h.0, refl, h.1)
+  refused_as (unloads.Refused said line) refusal h = (line, ap (λ r. unloads.Refused r line) (sym h.0), subst (λ r. AddsLine old new before after [] (refused_text r line)) (sym h.0) h.1)
   refused_as unloads.NoMemory refusal h = absurd h
 
   -- the statuses of a run that came to an instance
-  solved_status : (p : Problem) (status : Status) (n : Counts) → Solves old new before after p status n → (status ≡ Complete) ⊎ (status ≡ WriteFault) ⊎ (status ≡ NoMemory)
-  solved_status p Complete n h = inl refl
-  solved_status p WriteFault n h = inr (inl refl)
-  solved_status p NoMemory n h = inr (inr refl)
-  solved_status p (Refused why) n h = absurd h
-  solved_status p (Usage why) n h = absurd h
-  solved_status p ReadFault n h = absurd h
+  solved_status : (shown : Bool) (p : Problem) (status : Status) (n : Counts) → Solves old new before after shown p status n → (status ≡ Complete) ⊎ (status ≡ WriteFault) ⊎ (status ≡ NoMemory)
+  solved_status shown p Complete n h = inl refl
+  solved_status shown p WriteFault n h = inr (inl refl)
+  solved_status shown p NoMemory n h = inr (inr refl)
+  solved_status shown p (Refused why) n h = absurd h
+  solved_status shown p (Usage why) n h = absurd h
+  solved_status shown p Printed n h = absurd h
+  solved_status shown p (DumpTooLong k) n h = absurd h
+  solved_status shown p ReadFault n h = absurd h
 
   -- those of a run that came to none, by why
   failed_status : (status : Status) → Refuses old new before after unloads.Failed status → (status ≡ ReadFault) ⊎ (status ≡ NoMemory)
@@ -121,22 +113,18 @@ module _ (old new : Option (List ℕ)) (before after : ℕ) where
   failed_status WriteFault h = absurd h
   failed_status (Refused why) h = absurd h
   failed_status (Usage why) h = absurd h
+  failed_status Printed h = absurd h
+  failed_status (DumpTooLong k) h = absurd h
 
-  long_status : (lines : ℕ) (status : Status) → Refuses old new before after (unloads.TooLong lines) status → (status ≡ Refused (Limit Text TEXT_BYTES)) ⊎ (status ≡ NoMemory)
-  long_status lines (Refused why) h = inl (ap Refused h.0)
-  long_status lines NoMemory h = inr refl
-  long_status lines Complete h = absurd h
-  long_status lines WriteFault h = absurd h
-  long_status lines ReadFault h = absurd h
-  long_status lines (Usage why) h = absurd h
-
-  other_status : (status : Status) → Refuses old new before after unloads.Other status → (status ≡ Refused (Unsupported 0)) ⊎ (status ≡ NoMemory)
-  other_status (Refused why) h = inl (ap Refused h.0)
-  other_status NoMemory h = inr refl
-  other_status Complete h = absurd h
-  other_status WriteFault h = absurd h
-  other_status ReadFault h = absurd h
-  other_status (Usage why) h = absurd h
+  refused_status : (said : Refusal) (line : ℕ) (status : Status) → Refuses old new before after (unloads.Refused said line) status → (status ≡ Refused said) ⊎ (status ≡ NoMemory)
+  refused_status said line (Refused why) h = inl (ap Refused h.0)
+  refused_status said line NoMemory h = inr refl
+  refused_status said line Complete h = absurd h
+  refused_status said line WriteFault h = absurd h
+  refused_status said line ReadFault h = absurd h
+  refused_status said line (Usage why) h = absurd h
+  refused_status said line Printed h = absurd h
+  refused_status said line (DumpTooLong k) h = absurd h
 
   memory_status : (status : Status) → Refuses old new before after unloads.NoMemory status → status ≡ NoMemory
   memory_status NoMemory h = refl
@@ -145,229 +133,317 @@ module _ (old new : Option (List ℕ)) (before after : ℕ) where
   memory_status ReadFault h = absurd h
   memory_status (Refused why) h = absurd h
   memory_status (Usage why) h = absurd h
+  memory_status Printed h = absurd h
+  memory_status (DumpTooLong k) h = absurd h
 
-map_model : {P Q : List ℕ → Type 0} (name : Option (List ℕ)) → ((model : List ℕ) → P model → Q model) → IsSomeAnd name P → IsSomeAnd name Q
-map_model None f p = p
-map_model (Some model) f p = f model p
+-- what a run that came to an instance did, by its status
+module _ (old new : Option (List ℕ)) (before after : ℕ) where
+  complete_of : (redump shown : Bool) (p : Problem) (n : Counts) → Answers old new before after redump shown p Complete n → (redump ≡ false) × WritesReport shown p old new n
+  complete_of true shown p n h = absurd h
+  complete_of false shown p n h = (refl, h)
 
--- where the words ask for a name, what was told is of that name
-asked_so : (P : List ℕ → Type 0) (name : Option (List ℕ)) (model : List ℕ) → name ≡ Some model → IsSomeAnd name P → P model
-asked_so P None model e holds = cc
-asked_so P (Some other) model e holds = let same : other ≡ model = cc in subst P same holds
+  printed_of : (redump shown : Bool) (p : Problem) (n : Counts) → Answers old new before after redump shown p Printed n → (redump ≡ true) × Dumps old new before after p Printed n
+  printed_of true shown p n h = (refl, h)
+  printed_of false shown p n h = absurd h
 
-not_none : (P : List ℕ → Type 0) (name : Option (List ℕ)) → IsSomeAnd name P → name ≡ None → ⊥
-not_none P None holds e = holds
-not_none P (Some model) holds e = cc
+  too_long_of : (redump shown : Bool) (p : Problem) (k : ℕ) (n : Counts) → Answers old new before after redump shown p (DumpTooLong k) n → (redump ≡ true) × Dumps old new before after p (DumpTooLong k) n
+  too_long_of true shown p k n h = (refl, h)
+  too_long_of false shown p k n h = absurd h
 
-for_asked : (P : List ℕ → Type 0) (name : Option (List ℕ)) → ((model : List ℕ) → name ≡ Some model → P model) → IfSome name P
+  cut_of : (redump shown : Bool) (p : Problem) (n : Counts) → Answers old new before after redump shown p WriteFault n → HasRisen before after × IsCutOff redump shown p old new n
+  cut_of true shown p n (none, risen, part) = (risen, (none, part))
+  cut_of false shown p n (risen, some, all) = (risen, (some, all))
+
+  stopped_of : (redump shown : Bool) (p : Problem) (n : Counts) → Answers old new before after redump shown p NoMemory n
+      → (done : List ℕ) × (((done ≡ []) × HasNone n) ⊎ ((redump ≡ false) × IsFrontOfReport shown p done × CountsSolutions shown p done n.solutions)) × AddsLine old new before after done memory_line
+  stopped_of true shown p n (none, line) = ([], inl (refl, none), line)
+  stopped_of false shown p n (done, front, few, line) = (done, inr (refl, front, few), line)
+
+  never_misused : (redump shown : Bool) (p : Problem) (rule : Rule) (n : Counts) → Answers old new before after redump shown p (Usage rule) n → ⊥
+  never_misused true shown p rule n h = h
+  never_misused false shown p rule n h = h
+
+  never_unread : (redump shown : Bool) (p : Problem) (n : Counts) → Answers old new before after redump shown p ReadFault n → ⊥
+  never_unread true shown p n h = h
+  never_unread false shown p n h = h
+
+  never_refused : (redump shown : Bool) (p : Problem) (why : Refusal) (n : Counts) → Answers old new before after redump shown p (Refused why) n → ⊥
+  never_refused true shown p why n h = h
+  never_refused false shown p why n h = h
+
+  dump_of : (p : Problem) (status : Status) (n : Counts) → Dumps old new before after p status n → IsDumpStatus status ⊎ HasRisen before after ⊎ (status ≡ NoMemory)
+  dump_of p Printed n h = inl (inl refl)
+  dump_of p (DumpTooLong k) n h = inl (inr (k, refl))
+  dump_of p WriteFault n h = inr (inl h.1)
+  dump_of p NoMemory n h = inr (inr refl)
+  dump_of p Complete n h = absurd h
+  dump_of p (Refused why) n h = absurd h
+  dump_of p (Usage why) n h = absurd h
+  dump_of p ReadFault n h = absurd h
+
+  answered_status : (redump shown : Bool) (p : Problem) (status : Status) (n : Counts) → Answers old new before after redump shown p status n → IsModelStatus redump status
+  answered_status true shown p Printed n h = inl (inl refl)
+  answered_status true shown p (DumpTooLong k) n h = inl (inr (k, refl))
+  answered_status true shown p WriteFault n h = inr (inl refl)
+  answered_status true shown p NoMemory n h = inr (inr (inr refl))
+  answered_status true shown p Complete n h = absurd h
+  answered_status true shown p (Refused why) n h = absurd h
+  answered_status true shown p (Usage why) n h = absurd h
+  answered_status true shown p ReadFault n h = absurd h
+  answered_status false shown p Complete n h = inl refl
+  answered_status false shown p WriteFault n h = inr (inl refl)
+  answered_status false shown p NoMemory n h = inr (inr (inr refl))
+  answered_status false shown p Printed n h = absurd h
+  answered_status false shown p (DumpTooLong k) n h = absurd h
+  answered_status false shown p (Refused why) n h = absurd h
+  answered_status false shown p (Usage why) n h = absurd h
+  answered_status false shown p ReadFault n h = absurd h
+
+unread_status : (redump : Bool) (status : Status) → status ≡ ReadFault → IsModelStatus redump status
+unread_status true status e = inr (inr (inl e))
+unread_status false status e = inr (inr (inl e))
+
+spent_status : (redump : Bool) (status : Status) → status ≡ NoMemory → IsModelStatus redump status
+spent_status true status e = inr (inr (inr e))
+spent_status false status e = inr (inr (inr e))
+
+map_asked : {P Q : Asked → Type 0} (asks : Option Asked) → ((a : Asked) → P a → Q a) → IsSomeAnd asks P → IsSomeAnd asks Q
+map_asked None f p = p
+map_asked (Some a) f p = f a p
+
+-- where the words ask for something, what was told is of that
+asked_so : (P : Asked → Type 0) (asks : Option Asked) (a : Asked) → asks ≡ Some a → IsSomeAnd asks P → P a
+asked_so P None a e holds = cc
+asked_so P (Some other) a e holds = let same : other ≡ a = cc in subst P same holds
+
+never : (asks : Option Asked) → IsSomeAnd asks (λ _. ⊥) → ⊥
+never None h = h
+never (Some a) h = h
+
+for_asked : (P : Asked → Type 0) (asks : Option Asked) → ((a : Asked) → asks ≡ Some a → P a) → IfSome asks P
 for_asked P None f = tt
-for_asked P (Some model) f = f model refl
+for_asked P (Some a) f = f a refl
 
-module _ (told : Option FileMap) (name : Option (List ℕ)) (unread read : List ℕ → ℕ) (old new : Option (List ℕ)) (before after : ℕ) (status : Status) (n : Counts) (explained : Explains told name unread read old new before after status n) where
-  -- a status that isn't that of words that ask for nothing tells of a run with a name
-  told_of : (expected : Status) → (expected ≡ Usage (Unknown 0) → ⊥) → status ≡ expected
-      → IsSomeAnd name (λ model. Found told name unread read old new before after model expected n ⊎ Lost told name unread read old new before after model expected n)
-  told_of expected differs e = by explained
+for_rule : (P : Rule → Type 0) (broken : Option Rule) → ((rule : Rule) → broken ≡ Some rule → P rule) → IfSome broken P
+for_rule P None f = tt
+for_rule P (Some rule) f = f rule refl
+
+-- words that break a rule ask for nothing
+asks_nothing : (broken : Option Rule) (name : Option (List ℕ)) (shown redump : Bool) (rule : Rule) → broken ≡ Some rule → asked_unless broken name shown redump ≡ None
+asks_nothing None name shown redump rule e = cc
+asks_nothing (Some other) name shown redump rule e = refl
+
+not_both : (asks : Option Asked) (a : Asked) → asks ≡ Some a → asks ≡ None → ⊥
+not_both asks a some none = let both : None ≡ Some a = sym none ∙ some in cc
+
+nothing_of : (P : Asked → Type 0) (asks : Option Asked) → asks ≡ None → IsSomeAnd asks P → ⊥
+nothing_of P None e h = h
+nothing_of P (Some a) e h = cc
+
+same_rule : (rule other : Rule) → Usage rule ≡ Usage other → rule ≡ other
+same_rule rule other e = cc
+
+module _ (told : Option FileMap) (words : List (List ℕ)) (unread read : List ℕ → ℕ) (old new : Option (List ℕ)) (before after : ℕ) (status : Status) (n : Counts) (explained : Explains told words unread read old new before after status n) where
+  -- what a run came to whose words ask for this, by its status
+  abbrev Came : Status → Asked → Type 0
+  Came s a = Found told words unread read old new before after a s n ⊎ Lost told words unread read old new before after a s n
+
+  unasked : (rule : Rule) → first_broken words ≡ Some rule → asked words ≡ None
+  unasked rule broken = asks_nothing (first_broken words) _ _ _ rule broken
+
+  -- a status that isn't that of words that break a rule, or of want of memory, tells of a run that was asked for something
+  told_of : (expected : Status) → ((rule : Rule) → expected ≡ Usage rule → ⊥) → (expected ≡ NoMemory → ⊥) → status ≡ expected → IsSomeAnd (asked words) (Came expected)
+  told_of expected lawful supplied e = by explained
     where
-      by : Explains told name unread read old new before after status n → IsSomeAnd name (λ model. Found told name unread read old new before after model expected n ⊎ Lost told name unread read old new before after model expected n)
-      by (inl misused) = absurd (differs (sym e ∙ misused.is))
-      by (inr some) = subst (λ s. IsSomeAnd name (λ model. Found told name unread read old new before after model s n ⊎ Lost told name unread read old new before after model s n)) e some
+      by : Explains told words unread read old new before after status n → IsSomeAnd (asked words) (Came expected)
+      by (inl misused) = absurd (lawful misused.rule (sym e ∙ misused.misuses.is))
+      by (inr (inl spent)) = absurd (supplied (sym e ∙ spent.spends.is))
+      by (inr (inr some)) = subst (λ s. IsSomeAnd (asked words) (Came s)) e some
 
-  pub complete : status ≡ Complete → IsSomeAnd name (λ model. (p : Problem) × IsTheModel told model p × WritesReport p old new n)
-  complete e = map_model name each (told_of Complete (λ d. cc) e)
+  pub complete : status ≡ Complete → IsSomeAnd (asked words) (λ a. (a.redump ≡ false) × (p : Problem) × IsTheModel told a.model p × WritesReport a.print_sols p old new n)
+  complete e = map_asked (asked words) each (told_of Complete (λ rule d. cc) (λ d. cc) e)
     where
-      each : (model : List ℕ) → Found told name unread read old new before after model Complete n ⊎ Lost told name unread read old new before after model Complete n → (p : Problem) × IsTheModel told model p × WritesReport p old new n
-      each model (inl found) = (found.problem, found.is, found.solves)
-      each model (inr lost) = absurd (not_complete old new before after lost.why lost.refuses)
+      each : (a : Asked) → Came Complete a → (a.redump ≡ false) × (p : Problem) × IsTheModel told a.model p × WritesReport a.print_sols p old new n
+      each a (inl found) = let (is, written) = complete_of old new before after a.redump a.print_sols found.problem n found.answers in (is, found.problem, found.is, written)
+      each a (inr lost) = absurd (not_complete old new before after lost.why lost.refuses)
 
-  pub cut : status ≡ WriteFault → IsSomeAnd name (λ model. (p : Problem) × IsTheModel told model p × HasRisen before after × WritesSome p old new n)
-  cut e = map_model name each (told_of WriteFault (λ d. cc) e)
+  pub dumped : status ≡ Printed → IsSomeAnd (asked words) (λ a. (a.redump ≡ true) × (p : Problem) × IsTheModel told a.model p × Dumps old new before after p Printed n)
+  dumped e = map_asked (asked words) each (told_of Printed (λ rule d. cc) (λ d. cc) e)
     where
-      each : (model : List ℕ) → Found told name unread read old new before after model WriteFault n ⊎ Lost told name unread read old new before after model WriteFault n → (p : Problem) × IsTheModel told model p × HasRisen before after × WritesSome p old new n
-      each model (inl found) = (found.problem, found.is, found.solves.0, found.solves.1)
-      each model (inr lost) = absurd (not_written old new before after lost.why lost.refuses)
+      each : (a : Asked) → Came Printed a → (a.redump ≡ true) × (p : Problem) × IsTheModel told a.model p × Dumps old new before after p Printed n
+      each a (inl found) = let (is, written) = printed_of old new before after a.redump a.print_sols found.problem n found.answers in (is, found.problem, found.is, written)
+      each a (inr lost) = absurd (not_printed old new before after lost.why lost.refuses)
 
-  pub read_fault : status ≡ ReadFault → IsSomeAnd name (λ model. HasRisen (unread model) (read model) × HasNone n × AddsLine old new before after [] read_line)
-  read_fault e = map_model name each (told_of ReadFault (λ d. cc) e)
+  pub dump_too_long : (k : ℕ) → status ≡ DumpTooLong k → IsSomeAnd (asked words) (λ a. (a.redump ≡ true) × (p : Problem) × IsTheModel told a.model p × Dumps old new before after p (DumpTooLong k) n)
+  dump_too_long k e = map_asked (asked words) each (told_of (DumpTooLong k) (λ rule d. cc) (λ d. cc) e)
     where
-      each : (model : List ℕ) → Found told name unread read old new before after model ReadFault n ⊎ Lost told name unread read old new before after model ReadFault n → HasRisen (unread model) (read model) × HasNone n × AddsLine old new before after [] read_line
-      each model (inl found) = absurd found.solves
-      each model (inr lost) = let line = unread_line old new before after lost.why lost.refuses in (lost.failed line.0, lost.none, line.1)
+      each : (a : Asked) → Came (DumpTooLong k) a → (a.redump ≡ true) × (p : Problem) × IsTheModel told a.model p × Dumps old new before after p (DumpTooLong k) n
+      each a (inl found) = let (is, written) = too_long_of old new before after a.redump a.print_sols found.problem k n found.answers in (is, found.problem, found.is, written)
+      each a (inr lost) = absurd (not_too_long old new before after lost.why k lost.refuses)
 
-  pub long_text : status ≡ Refused (Limit Text TEXT_BYTES) → IsSomeAnd name (λ model. HasNone n × ((lines : ℕ) × IsLong told model lines × AddsLine old new before after [] (too_long_line lines)))
-  long_text e = map_model name each (told_of (Refused (Limit Text TEXT_BYTES)) (λ d. cc) e)
+  pub cut : status ≡ WriteFault → IsSomeAnd (asked words) (λ a. (p : Problem) × IsTheModel told a.model p × HasRisen before after × IsCutOff a.redump a.print_sols p old new n)
+  cut e = map_asked (asked words) each (told_of WriteFault (λ rule d. cc) (λ d. cc) e)
     where
-      by : (model : List ℕ) (lost : Lost told name unread read old new before after model (Refused (Limit Text TEXT_BYTES)) n) → ((Limit Text TEXT_BYTES ≡ Limit Text TEXT_BYTES) × ((lines : ℕ) × (lost.why ≡ unloads.TooLong lines) × AddsLine old new before after [] (too_long_line lines)))
-          ⊎ ((Limit Text TEXT_BYTES ≡ Unsupported 0) × (lost.why ≡ unloads.Other) × AddsLine old new before after [] unsupported_line) → (lines : ℕ) × IsLong told model lines × AddsLine old new before after [] (too_long_line lines)
-      by model lost (inl (is, (lines, why, line))) = (lines, (subst (Unloads told model) why lost.held).1, line)
-      by model lost (inr other) = let is = other.0 in cc
+      each : (a : Asked) → Came WriteFault a → (p : Problem) × IsTheModel told a.model p × HasRisen before after × IsCutOff a.redump a.print_sols p old new n
+      each a (inl found) = let (risen, off) = cut_of old new before after a.redump a.print_sols found.problem n found.answers in (found.problem, found.is, risen, off)
+      each a (inr lost) = absurd (not_written old new before after lost.why lost.refuses)
 
-      each : (model : List ℕ) → Found told name unread read old new before after model (Refused (Limit Text TEXT_BYTES)) n ⊎ Lost told name unread read old new before after model (Refused (Limit Text TEXT_BYTES)) n → HasNone n × ((lines : ℕ) × IsLong told model lines × AddsLine old new before after [] (too_long_line lines))
-      each model (inl found) = absurd found.solves
-      each model (inr lost) = (lost.none, by model lost (refused_as old new before after lost.why (Limit Text TEXT_BYTES) lost.refuses))
-
-  pub other_text : status ≡ Refused (Unsupported 0) → IsSomeAnd name (λ model. HasNone n × IsOther told model × AddsLine old new before after [] unsupported_line)
-  other_text e = map_model name each (told_of (Refused (Unsupported 0)) (λ d. cc) e)
+  pub read_fault : status ≡ ReadFault → IsSomeAnd (asked words) (λ a. HasRisen (unread a.model) (read a.model) × HasNone n × AddsLine old new before after [] read_line)
+  read_fault e = map_asked (asked words) each (told_of ReadFault (λ rule d. cc) (λ d. cc) e)
     where
-      by : (model : List ℕ) (lost : Lost told name unread read old new before after model (Refused (Unsupported 0)) n) → ((Unsupported 0 ≡ Limit Text TEXT_BYTES) × ((lines : ℕ) × (lost.why ≡ unloads.TooLong lines) × AddsLine old new before after [] (too_long_line lines)))
-          ⊎ ((Unsupported 0 ≡ Unsupported 0) × (lost.why ≡ unloads.Other) × AddsLine old new before after [] unsupported_line) → IsOther told model × AddsLine old new before after [] unsupported_line
-      by model lost (inl long) = let is = long.0 in cc
-      by model lost (inr (is, why, line)) = (subst (Unloads told model) why lost.held, line)
+      each : (a : Asked) → Came ReadFault a → HasRisen (unread a.model) (read a.model) × HasNone n × AddsLine old new before after [] read_line
+      each a (inl found) = absurd (never_unread old new before after a.redump a.print_sols found.problem n found.answers)
+      each a (inr lost) = let line = unread_line old new before after lost.why lost.refuses in (lost.failed line.0, lost.none, line.1)
 
-      each : (model : List ℕ) → Found told name unread read old new before after model (Refused (Unsupported 0)) n ⊎ Lost told name unread read old new before after model (Refused (Unsupported 0)) n → HasNone n × IsOther told model × AddsLine old new before after [] unsupported_line
-      each model (inl found) = absurd found.solves
-      each model (inr lost) = let told_line = by model lost (refused_as old new before after lost.why (Unsupported 0) lost.refuses) in (lost.none, told_line.0, told_line.1)
-
-  pub no_memory : status ≡ NoMemory → IsSomeAnd name (λ model. (done : List ℕ) × StoppedAt told model done n × AddsLine old new before after done memory_line)
-  no_memory e = map_model name each (told_of NoMemory (λ d. cc) e)
+  pub refused : (why : Refusal) → status ≡ Refused why → IsSomeAnd (asked words) (λ a. HasNone n × ((line : ℕ) × IsTheRefused told a.model why line × AddsLine old new before after [] (refused_text why line)))
+  refused why e = map_asked (asked words) each (told_of (Refused why) (λ rule d. cc) (λ d. cc) e)
     where
-      each : (model : List ℕ) → Found told name unread read old new before after model NoMemory n ⊎ Lost told name unread read old new before after model NoMemory n → (done : List ℕ) × StoppedAt told model done n × AddsLine old new before after done memory_line
-      each model (inl found) = (found.solves.0, inr (found.problem, found.is, found.solves.1, found.solves.2), found.solves.3)
-      each model (inr lost) = ([], inl (refl, lost.none), no_memory_line old new before after lost.why lost.refuses)
+      each : (a : Asked) → Came (Refused why) a → HasNone n × ((line : ℕ) × IsTheRefused told a.model why line × AddsLine old new before after [] (refused_text why line))
+      each a (inl found) = absurd (never_refused old new before after a.redump a.print_sols found.problem why n found.answers)
+      each a (inr lost) =
+          let (line, is, added) = refused_as old new before after lost.why why lost.refuses in
+          (lost.none, (line, subst (Unloads told a.model) is lost.held, added))
 
-  -- what a run came to whose words ask for this name
-  came : (model : List ℕ) → name ≡ Some model → Found told name unread read old new before after model status n ⊎ Lost told name unread read old new before after model status n
-  came model asks = by explained
+  pub no_memory : status ≡ NoMemory → (done : List ℕ) × StoppedAt told (asked words) done n × AddsLine old new before after done memory_line
+  no_memory e = by explained
     where
-      by : Explains told name unread read old new before after status n → Found told name unread read old new before after model status n ⊎ Lost told name unread read old new before after model status n
-      by (inl misused) = let nothing = misused.nothing in absurd (none_some asks nothing)
+      came_so : (asks : Option Asked) → IsSomeAnd asks (Came NoMemory) → (done : List ℕ) × StoppedAt told asks done n × AddsLine old new before after done memory_line
+      came_so None h = absurd h
+      came_so (Some a) (inl found) = by_done (stopped_of old new before after a.redump a.print_sols found.problem n found.answers)
         where
-          none_some : {m : List ℕ} {o : Option (List ℕ)} → o ≡ Some m → o ≡ None → ⊥
-          none_some some none = cc
-      by (inr some) = asked_so (λ m. Found told name unread read old new before after m status n ⊎ Lost told name unread read old new before after m status n) name model asks some
+          by_done : (done : List ℕ) × (((done ≡ []) × HasNone n) ⊎ ((a.redump ≡ false) × IsFrontOfReport a.print_sols found.problem done × CountsSolutions a.print_sols found.problem done n.solutions)) × AddsLine old new before after done memory_line
+              → (done : List ℕ) × StoppedAt told (Some a) done n × AddsLine old new before after done memory_line
+          by_done (done, inl nothing, line) = (done, inl nothing, line)
+          by_done (done, inr (is, front, few), line) = (done, inr (is, found.problem, found.is, front, few), line)
+      came_so (Some a) (inr lost) = ([], inl (refl, lost.none), no_memory_line old new before after lost.why lost.refuses)
 
-  -- no words, no run
-  pub usage : (status ≡ Usage (Unknown 0)) ↔ (name ≡ None)
-  usage = (λ e. to (explained) e, λ e. from explained e)
+      by : Explains told words unread read old new before after status n → (done : List ℕ) × StoppedAt told (asked words) done n × AddsLine old new before after done memory_line
+      by (inl misused) = let is = misused.misuses.is in cc
+      by (inr (inl spent)) = ([], inl (refl, spent.none), spent.spends.line)
+      by (inr (inr some)) = came_so (asked words) (subst (λ s. IsSomeAnd (asked words) (Came s)) e some)
+
+  -- what a run came to whose words ask for something
+  came : (a : Asked) → asked words ≡ Some a → Came status a ⊎ (status ≡ NoMemory)
+  came a asks = by explained
     where
-      refused_so : (model : List ℕ) → Found told name unread read old new before after model status n ⊎ Lost told name unread read old new before after model status n → status ≡ Usage (Unknown 0) → ⊥
-      refused_so model (inl found) e = subst (λ s. Solves old new before after found.problem s n) e found.solves
-      refused_so model (inr lost) e = not_misused old new before after lost.why (Unknown 0) (subst (Refuses old new before after lost.why) e lost.refuses)
+      by : Explains told words unread read old new before after status n → Came status a ⊎ (status ≡ NoMemory)
+      by (inl misused) = absurd (not_both (asked words) a asks (unasked misused.rule misused.broken))
+      by (inr (inl spent)) = inr spent.spends.is
+      by (inr (inr some)) = inl (asked_so (Came status) (asked words) a asks some)
 
-      to : Explains told name unread read old new before after status n → status ≡ Usage (Unknown 0) → name ≡ None
-      to (inl misused) e = misused.nothing
-      to (inr some) e = absurd (some_bottom name (map_model name (λ m h. refused_so m h e) some))
-        where
-          some_bottom : (o : Option (List ℕ)) → IsSomeAnd o (λ _. ⊥) → ⊥
-          some_bottom None h = h
-          some_bottom (Some m) h = h
+  not_misused_came : (rule : Rule) → status ≡ Usage rule → (a : Asked) → Came status a → ⊥
+  not_misused_came rule e a (inl found) = never_misused old new before after a.redump a.print_sols found.problem rule n (subst (λ s. Answers old new before after a.redump a.print_sols found.problem s n) e found.answers)
+  not_misused_came rule e a (inr lost) = not_misused old new before after lost.why rule (subst (Refuses old new before after lost.why) e lost.refuses)
 
-      from : Explains told name unread read old new before after status n → name ≡ None → status ≡ Usage (Unknown 0)
-      from (inl misused) e = misused.is
-      from (inr some) e = absurd (not_none (λ m. Found told name unread read old new before after m status n ⊎ Lost told name unread read old new before after m status n) name some e)
-
-  pub usage_line_said : status ≡ Usage (Unknown 0) → HasNone n × AddsLine old new before after [] usage_line
-  usage_line_said e = by explained
+  -- words that break a rule
+  pub usage : (rule : Rule) → status ≡ Usage rule → (first_broken words ≡ Some rule) × HasNone n × AddsLine old new before after [] (usage_line rule)
+  usage rule e = by explained
     where
-      by : Explains told name unread read old new before after status n → HasNone n × AddsLine old new before after [] usage_line
-      by (inl misused) = (misused.none, misused.line)
-      by (inr some) = absurd (not_none (λ m. Found told name unread read old new before after m status n ⊎ Lost told name unread read old new before after m status n) name some (usage.0 e))
+      by : Explains told words unread read old new before after status n → (first_broken words ≡ Some rule) × HasNone n × AddsLine old new before after [] (usage_line rule)
+      by (inl misused) =
+          let same : misused.rule ≡ rule = same_rule misused.rule rule (sym misused.misuses.is ∙ e) in
+          (misused.broken ∙ ap Some same, misused.none, subst (λ r. AddsLine old new before after [] (usage_line r)) same misused.misuses.line)
+      by (inr (inl spent)) = let is = spent.spends.is in cc
+      by (inr (inr some)) = absurd (never (asked words) (map_asked (asked words) (not_misused_came rule e) some))
 
-  -- a model: its report, or a fault
-  pub model_status : IfSome name (λ model. (p : Problem) → HoldsModel told model p → IsModelStatus status)
-  model_status = for_asked (λ model. (p : Problem) → HoldsModel told model p → IsModelStatus status) name (λ model asks p holds. by model p holds (came model asks))
+  pub broken : IfSome (first_broken words) (λ rule. (status ≡ Usage rule) ⊎ (status ≡ NoMemory))
+  broken = for_rule (λ rule. (status ≡ Usage rule) ⊎ (status ≡ NoMemory)) (first_broken words) (λ rule is. by rule is explained)
     where
-      solved : (status ≡ Complete) ⊎ (status ≡ WriteFault) ⊎ (status ≡ NoMemory) → IsModelStatus status
-      solved (inl e) = inl e
-      solved (inr (inl e)) = inr (inl e)
-      solved (inr (inr e)) = inr (inr (inr e))
+      some_rule : {r s : Rule} → Some r ≡ Some s → r ≡ s
+      some_rule e = cc
 
-      lost_by : (model : List ℕ) (p : Problem) (why : Unloaded) → HoldsModel told model p → Unloads told model why → Refuses old new before after why status → IsModelStatus status
-      lost_by model p unloads.Failed holds held refuses = elim (failed_status old new before after status refuses) [ inl e ↦ inr (inr (inl e)) | inr e ↦ inr (inr (inr e)) ]
-      lost_by model p (unloads.TooLong lines) holds held refuses = absurd (model_not_long told model p holds (long_so told holds.there.0 model lines holds.there.1 held.1))
-      lost_by model p unloads.Other holds held refuses = absurd (model_not_other told model p holds (told_so told holds.there.0 holds.there.1 held))
-      lost_by model p unloads.NoMemory holds held refuses = inr (inr (inr (memory_status old new before after status refuses)))
+      by : (rule : Rule) → first_broken words ≡ Some rule → Explains told words unread read old new before after status n → (status ≡ Usage rule) ⊎ (status ≡ NoMemory)
+      by rule is (inl misused) = inl (misused.misuses.is ∙ ap Usage (some_rule (sym misused.broken ∙ is)))
+      by rule is (inr (inl spent)) = inr spent.spends.is
+      by rule is (inr (inr some)) = absurd (nothing_of (Came status) (asked words) (unasked rule is) some)
 
-      by : (model : List ℕ) (p : Problem) → HoldsModel told model p → Found told name unread read old new before after model status n ⊎ Lost told name unread read old new before after model status n → IsModelStatus status
-      by model p holds (inl found) = solved (solved_status old new before after found.problem status n found.solves)
-      by model p holds (inr lost) = lost_by model p lost.why holds lost.held lost.refuses
+  -- a model: its report or its text, or a fault
+  pub model_status : OneVerdict → IfSome (asked words) (λ a. (p : Problem) → HoldsModel told a.model p → IsModelStatus a.redump status)
+  model_status one = for_asked (λ a. (p : Problem) → HoldsModel told a.model p → IsModelStatus a.redump status) (asked words) (λ a asks p holds. by a p holds (came a asks))
+    where
+      lost_by : (a : Asked) (p : Problem) (why : Unloaded) → HoldsModel told a.model p → Unloads told a.model why → Refuses old new before after why status → IsModelStatus a.redump status
+      lost_by a p unloads.Failed holds held refuses = elim (failed_status old new before after status refuses) [ inl e ↦ unread_status a.redump status e | inr e ↦ spent_status a.redump status e ]
+      lost_by a p (unloads.Refused why line) holds held refuses = absurd (model_not_refused told a.model one p why line holds (told_so told holds.there.0 holds.there.1 held))
+      lost_by a p unloads.NoMemory holds held refuses = spent_status a.redump status (memory_status old new before after status refuses)
+
+      by : (a : Asked) (p : Problem) → HoldsModel told a.model p → Came status a ⊎ (status ≡ NoMemory) → IsModelStatus a.redump status
+      by a p holds (inl (inl found)) = answered_status old new before after a.redump a.print_sols found.problem status n found.answers
+      by a p holds (inl (inr lost)) = lost_by a p lost.why holds lost.held lost.refuses
+      by a p holds (inr e) = spent_status a.redump status e
+
+  -- where reading didn't fail, a model's run that came to no instance ran out of memory
+  lost_memory : OneVerdict → (a : Asked) (p : Problem) (why : Unloaded) → HoldsModel told a.model p → (why ≡ unloads.Failed → ⊥) → Unloads told a.model why → Refuses old new before after why status → status ≡ NoMemory
+  lost_memory one a p unloads.Failed holds read_it held refuses = absurd (read_it refl)
+  lost_memory one a p (unloads.Refused why line) holds read_it held refuses = absurd (model_not_refused told a.model one p why line holds (told_so told holds.there.0 holds.there.1 held))
+  lost_memory one a p unloads.NoMemory holds read_it held refuses = memory_status old new before after status refuses
 
   -- a model, and no fault: its report
-  pub printed : IfSome name (λ model. (p : Problem) → HoldsModel told model p → (HasRisen (unread model) (read model) → ⊥) → (HasRisen before after → ⊥) → ((status ≡ Complete) × WritesReport p old new n) ⊎ (status ≡ NoMemory))
-  printed = for_asked (λ model. (p : Problem) → HoldsModel told model p → (HasRisen (unread model) (read model) → ⊥) → (HasRisen before after → ⊥) → ((status ≡ Complete) × WritesReport p old new n) ⊎ (status ≡ NoMemory)) name
-      (λ model asks p holds unrisen kept. by model p holds unrisen kept (came model asks))
+  pub printed : OneVerdict → IfSome (asked words) (λ a. (p : Problem) → a.redump ≡ false → HoldsModel told a.model p → (HasRisen (unread a.model) (read a.model) → ⊥) → (HasRisen before after → ⊥)
+      → ((status ≡ Complete) × WritesReport a.print_sols p old new n) ⊎ (status ≡ NoMemory))
+  printed one = for_asked (λ a. (p : Problem) → a.redump ≡ false → HoldsModel told a.model p → (HasRisen (unread a.model) (read a.model) → ⊥) → (HasRisen before after → ⊥)
+      → ((status ≡ Complete) × WritesReport a.print_sols p old new n) ⊎ (status ≡ NoMemory)) (asked words)
+      (λ a asks p solving holds unrisen kept. by a p solving holds unrisen kept (came a asks))
     where
-      solved : (model : List ℕ) (p : Problem) → HoldsModel told model p → (HasRisen before after → ⊥) → (found : Found told name unread read old new before after model status n)
-          → (status ≡ Complete) ⊎ (status ≡ WriteFault) ⊎ (status ≡ NoMemory) → ((status ≡ Complete) × WritesReport p old new n) ⊎ (status ≡ NoMemory)
-      solved model p holds kept found (inl e) =
-          let written = subst (λ s. Solves old new before after found.problem s n) e found.solves in
-          inl (e, subst (λ q. WritesReport q old new n) (sym (found.is.only p holds)) written)
-      solved model p holds kept found (inr (inl e)) = absurd (kept (subst (λ s. Solves old new before after found.problem s n) e found.solves).0)
-      solved model p holds kept found (inr (inr e)) = inr e
+      solved : (a : Asked) (p : Problem) → HoldsModel told a.model p → (HasRisen before after → ⊥) → (found : Found told words unread read old new before after a status n) → Solves old new before after a.print_sols found.problem status n
+          → (status ≡ Complete) ⊎ (status ≡ WriteFault) ⊎ (status ≡ NoMemory) → ((status ≡ Complete) × WritesReport a.print_sols p old new n) ⊎ (status ≡ NoMemory)
+      solved a p holds kept found solves (inl e) =
+          let written = subst (λ s. Solves old new before after a.print_sols found.problem s n) e solves in
+          inl (e, subst (λ q. WritesReport a.print_sols q old new n) (sym (found.is.only p holds)) written)
+      solved a p holds kept found solves (inr (inl e)) = absurd (kept (subst (λ s. Solves old new before after a.print_sols found.problem s n) e solves).0)
+      solved a p holds kept found solves (inr (inr e)) = inr e
 
-      lost_by : (model : List ℕ) (p : Problem) (why : Unloaded) → HoldsModel told model p → (why ≡ unloads.Failed → ⊥) → Unloads told model why → Refuses old new before after why status → status ≡ NoMemory
-      lost_by model p unloads.Failed holds read_it held refuses = absurd (read_it refl)
-      lost_by model p (unloads.TooLong lines) holds read_it held refuses = absurd (model_not_long told model p holds (long_so told holds.there.0 model lines holds.there.1 held.1))
-      lost_by model p unloads.Other holds read_it held refuses = absurd (model_not_other told model p holds (told_so told holds.there.0 holds.there.1 held))
-      lost_by model p unloads.NoMemory holds read_it held refuses = memory_status old new before after status refuses
+      by : (a : Asked) (p : Problem) → a.redump ≡ false → HoldsModel told a.model p → (HasRisen (unread a.model) (read a.model) → ⊥) → (HasRisen before after → ⊥) → Came status a ⊎ (status ≡ NoMemory)
+          → ((status ≡ Complete) × WritesReport a.print_sols p old new n) ⊎ (status ≡ NoMemory)
+      by a p solving holds unrisen kept (inl (inl found)) =
+          let solves = subst (λ r. Answers old new before after r a.print_sols found.problem status n) solving found.answers in
+          solved a p holds kept found solves (solved_status old new before after a.print_sols found.problem status n solves)
+      by a p solving holds unrisen kept (inl (inr lost)) = inr (lost_memory one a p lost.why holds (λ e. unrisen (lost.failed e)) lost.held lost.refuses)
+      by a p solving holds unrisen kept (inr e) = inr e
 
-      by : (model : List ℕ) (p : Problem) → HoldsModel told model p → (HasRisen (unread model) (read model) → ⊥) → (HasRisen before after → ⊥) → Found told name unread read old new before after model status n ⊎ Lost told name unread read old new before after model status n
-          → ((status ≡ Complete) × WritesReport p old new n) ⊎ (status ≡ NoMemory)
-      by model p holds unrisen kept (inl found) = solved model p holds kept found (solved_status old new before after found.problem status n found.solves)
-      by model p holds unrisen kept (inr lost) = inr (lost_by model p lost.why holds (λ e. unrisen (lost.failed e)) lost.held lost.refuses)
+  -- the same of its text
+  pub redumped : OneVerdict → IfSome (asked words) (λ a. (p : Problem) → a.redump ≡ true → HoldsModel told a.model p → (HasRisen (unread a.model) (read a.model) → ⊥) → (HasRisen before after → ⊥)
+      → (IsDumpStatus status × Dumps old new before after p status n) ⊎ (status ≡ NoMemory))
+  redumped one = for_asked (λ a. (p : Problem) → a.redump ≡ true → HoldsModel told a.model p → (HasRisen (unread a.model) (read a.model) → ⊥) → (HasRisen before after → ⊥)
+      → (IsDumpStatus status × Dumps old new before after p status n) ⊎ (status ≡ NoMemory)) (asked words)
+      (λ a asks p dumping holds unrisen kept. by a p dumping holds unrisen kept (came a asks))
+    where
+      dumped_so : (p : Problem) → (HasRisen before after → ⊥) → Dumps old new before after p status n → IsDumpStatus status ⊎ HasRisen before after ⊎ (status ≡ NoMemory) → (IsDumpStatus status × Dumps old new before after p status n) ⊎ (status ≡ NoMemory)
+      dumped_so p kept dumps (inl is) = inl (is, dumps)
+      dumped_so p kept dumps (inr (inl risen)) = absurd (kept risen)
+      dumped_so p kept dumps (inr (inr e)) = inr e
 
-  -- a text that is too long, and one that stands for nothing, and no file
+      by : (a : Asked) (p : Problem) → a.redump ≡ true → HoldsModel told a.model p → (HasRisen (unread a.model) (read a.model) → ⊥) → (HasRisen before after → ⊥) → Came status a ⊎ (status ≡ NoMemory)
+          → (IsDumpStatus status × Dumps old new before after p status n) ⊎ (status ≡ NoMemory)
+      by a p dumping holds unrisen kept (inl (inl found)) =
+          let dumps = subst (λ r. Answers old new before after r a.print_sols found.problem status n) dumping found.answers in
+          let of_p = subst (λ q. Dumps old new before after q status n) (sym (found.is.only p holds)) dumps in
+          dumped_so p kept of_p (dump_of old new before after p status n of_p)
+      by a p dumping holds unrisen kept (inl (inr lost)) = inr (lost_memory one a p lost.why holds (λ e. unrisen (lost.failed e)) lost.held lost.refuses)
+      by a p dumping holds unrisen kept (inr e) = inr e
+
+  -- a text that is refused, and no file
   module _ (P : List ℕ → Type 0) (expected : Status) (found_so : (model : List ℕ) (p : Problem) → P model → IsTheModel told model p → ⊥)
-      (long_is : (model : List ℕ) (lines : ℕ) → P model → IsLong told model lines → expected ≡ Refused (Limit Text TEXT_BYTES))
-      (other_is : (model : List ℕ) → P model → IsOther told model → expected ≡ Refused (Unsupported 0)) where
+      (refused_is : (model : List ℕ) (why : Refusal) (line : ℕ) → P model → IsTheRefused told model why line → expected ≡ Refused why) where
     lost_yields : (model : List ℕ) (why : Unloaded) → P model → Unloads told model why → Refuses old new before after why status → Yields status expected
     lost_yields model unloads.Failed holds held refuses = elim (failed_status old new before after status refuses) [ inl e ↦ inr (inl e) | inr e ↦ inr (inr e) ]
-    lost_yields model (unloads.TooLong lines) holds held refuses = elim (long_status old new before after lines status refuses) [ inl e ↦ inl (e ∙ sym (long_is model lines holds held.1)) | inr e ↦ inr (inr e) ]
-    lost_yields model unloads.Other holds held refuses = elim (other_status old new before after status refuses) [ inl e ↦ inl (e ∙ sym (other_is model holds held)) | inr e ↦ inr (inr e) ]
+    lost_yields model (unloads.Refused why line) holds held refuses = elim (refused_status old new before after why line status refuses) [ inl e ↦ inl (e ∙ sym (refused_is model why line holds held)) | inr e ↦ inr (inr e) ]
     lost_yields model unloads.NoMemory holds held refuses = inr (inr (memory_status old new before after status refuses))
 
-    yields : (model : List ℕ) → P model → Found told name unread read old new before after model status n ⊎ Lost told name unread read old new before after model status n → Yields status expected
-    yields model holds (inl found) = absurd (found_so model found.problem holds found.is)
-    yields model holds (inr lost) = lost_yields model lost.why holds lost.held lost.refuses
+    yields : (a : Asked) → P a.model → Came status a ⊎ (status ≡ NoMemory) → Yields status expected
+    yields a holds (inl (inl found)) = absurd (found_so a.model found.problem holds found.is)
+    yields a holds (inl (inr lost)) = lost_yields a.model lost.why holds lost.held lost.refuses
+    yields a holds (inr e) = inr (inr e)
 
-  pub long_status_is : IfSome name (λ model. HoldsLongText told model → Yields status (Refused (Limit Text TEXT_BYTES)))
-  long_status_is = for_asked (λ model. HoldsLongText told model → Yields status (Refused (Limit Text TEXT_BYTES))) name
-      (λ model asks holds. yields (HoldsLongText told) (Refused (Limit Text TEXT_BYTES))
-      (λ m p long is. model_not_long told m p (told_so told long.1.0 long.1.1 is.held) long)
-      (λ m lines long is. refl)
-      (λ m long is. absurd (other_not_long told m (told_so told long.1.0 long.1.1 is) long))
-      model holds (came model asks))
+  pub refuses : OneVerdict → IfSome (asked words) (λ a. (why : Refusal) (line : ℕ) → HoldsRefused told a.model why line → Yields status (Refused why))
+  refuses one = for_asked (λ a. (why : Refusal) (line : ℕ) → HoldsRefused told a.model why line → Yields status (Refused why)) (asked words)
+      (λ a asks why line holds. yields (λ m. HoldsRefused told m why line) (Refused why)
+      (λ m p refused is. model_not_refused told m one p why line (told_so told refused.there.0 refused.there.1 is.held) refused)
+      (λ m other more refused held. ap Refused (one_refusal told m one other why more line (told_so told refused.there.0 refused.there.1 held) refused))
+      a holds (came a asks))
 
-  pub other_status_is : IfSome name (λ model. HoldsOtherText told model → Yields status (Refused (Unsupported 0)))
-  other_status_is = for_asked (λ model. HoldsOtherText told model → Yields status (Refused (Unsupported 0))) name
-      (λ model asks holds. yields (HoldsOtherText told) (Refused (Unsupported 0))
-      (λ m p other is. model_not_other told m p (told_so told other.there.0 other.there.1 is.held) other)
-      (λ m lines other is. absurd (other_not_long told m other (long_so told other.there.0 m lines other.there.1 is)))
-      (λ m other is. refl)
-      model holds (came model asks))
-
-  pub absent_status_is : IfSome name (λ model. IsAbsent told model → Yields status ReadFault)
-  absent_status_is = for_asked (λ model. IsAbsent told model → Yields status ReadFault) name
-      (λ model asks holds. yields (IsAbsent told) ReadFault
+  pub absent_status_is : IfSome (asked words) (λ a. IsAbsent told a.model → Yields status ReadFault)
+  absent_status_is = for_asked (λ a. IsAbsent told a.model → Yields status ReadFault) (asked words)
+      (λ a asks holds. yields (IsAbsent told) ReadFault
       (λ m p absent is. let model_held = told_so told absent.0 absent.1 is.held in absent_not_told told m absent model_held.text model_held.there)
-      (λ m lines absent is. let long = long_so told absent.0 m lines absent.1 is in absurd (absent_not_told told m absent long.0 long.1))
-      (λ m absent is. let other = told_so told absent.0 absent.1 is in absurd (absent_not_told told m absent other.text other.there))
-      model holds (came model asks))
-
-  -- there are no other refusals
-  pub refusals : (why : Refusal) → status ≡ Refused why → (why ≡ Limit Text TEXT_BYTES) ⊎ (why ≡ Unsupported 0)
-  refusals why e = one_of name (told_of (Refused why) (λ d. cc) e)
-    where
-      each : (model : List ℕ) → Found told name unread read old new before after model (Refused why) n ⊎ Lost told name unread read old new before after model (Refused why) n → (why ≡ Limit Text TEXT_BYTES) ⊎ (why ≡ Unsupported 0)
-      each model (inl found) = absurd found.solves
-      each model (inr lost) = elim (refused_as old new before after lost.why why lost.refuses) [ inl long ↦ inl long.0 | inr other ↦ inr other.0 ]
-
-      one_of : (o : Option (List ℕ)) → IsSomeAnd o (λ model. Found told name unread read old new before after model (Refused why) n ⊎ Lost told name unread read old new before after model (Refused why) n) → (why ≡ Limit Text TEXT_BYTES) ⊎ (why ≡ Unsupported 0)
-      one_of None h = absurd h
-      one_of (Some model) h = each model h
-
-  -- and no other rule that the words break
-  pub usages : (rule : Rule) → status ≡ Usage rule → rule ≡ Unknown 0
-  usages rule e = by explained
-    where
-      each : (model : List ℕ) → Found told name unread read old new before after model status n ⊎ Lost told name unread read old new before after model status n → ⊥
-      each model (inl found) = subst (λ s. Solves old new before after found.problem s n) e found.solves
-      each model (inr lost) = not_misused old new before after lost.why rule (subst (Refuses old new before after lost.why) e lost.refuses)
-
-      none_of : (o : Option (List ℕ)) → IsSomeAnd o (λ model. Found told name unread read old new before after model status n ⊎ Lost told name unread read old new before after model status n) → ⊥
-      none_of None h = h
-      none_of (Some model) h = each model h
-
-      by : Explains told name unread read old new before after status n → rule ≡ Unknown 0
-      by (inl misused) = let is = misused.is in cc
-      by (inr some) = absurd (none_of name some)
+      (λ m why line absent held. let refused_held = told_so told absent.0 absent.1 held in absurd (absent_not_told told m absent refused_held.text refused_held.there))
+      a holds (came a asks))

@@ -1,3 +1,4 @@
+pub mod Verdicts
 pub mod Solving
 pub mod Loading
 pub mod Lines
@@ -7,3 +8,6 @@ pub mod Assigning
 pub mod Going
 pub mod Reading
 pub mod Turned
+pub mod Spelled
+pub mod Misusing
+pub mod Dumping

@@ -1,18 +1,20 @@
 -- The numbers that the program ends with.
 use Rattle.std.specs.Prelude.{ℕ}
 use Rattle.mn_driver.specs.declared.status.Status.{Status}
-use Rattle.mn_driver.specs.declared.status.Status.TheVariants.{Complete, Refused, Usage, ReadFault, WriteFault, NoMemory}
+use Rattle.mn_driver.specs.declared.status.Status.TheVariants.{Complete, Printed, Refused, Usage, ReadFault, WriteFault, DumpTooLong, NoMemory}
 
--- 5 is kept for answers that are too large
 abbrev pub code_of : Status → ℕ
 code_of Complete = 0
+code_of Printed = 0
 code_of (Refused why) = 1
 code_of (Usage why) = 2
 code_of ReadFault = 3
 code_of WriteFault = 4
+code_of (DumpTooLong n) = 5
 code_of NoMemory = 6
 
 -- the status of a run whose last flush failed
 abbrev pub unflushed : Status → Status
 unflushed Complete = WriteFault
+unflushed Printed = WriteFault
 unflushed other = other

@@ -1,24 +1,30 @@
 -- The words of the clauses of a run.
-use Rattle.std.specs.Prelude.{◌≡◌, ℕ, ◌⊎◌, List, [], Option}
+use Rattle.std.specs.Prelude.{◌≡◌, ℕ, ◌⊎◌, Bool, true, false, List, [], Option, IsSomeAnd}
 use Rattle.mn_model.specs.Problem.{Problem}
 use Rattle.mn_outside.specs.Content.{FileMap}
 use Rattle.mn_driver.specs.Counting.{HasNone}
 use Rattle.mn_driver.specs.Runs.{IsTheModel}
-use Rattle.mn_driver.specs.Written.{CountsBlocks, IsFrontOfReport}
+use Rattle.mn_driver.specs.Words.{Asked}
+use Rattle.mn_driver.specs.Written.{CountsSolutions, IsFrontOfReport}
 use Rattle.mn_driver.specs.declared.status.Counts.{Counts}
 use Rattle.mn_driver.specs.declared.status.Status.{Status}
-use Rattle.mn_driver.specs.declared.status.Status.TheVariants.{Complete, WriteFault, ReadFault, NoMemory}
+use Rattle.mn_driver.specs.declared.status.Status.TheVariants.{Complete, Printed, WriteFault, DumpTooLong, ReadFault, NoMemory}
 
 -- the status is the expected one, unless reading failed or memory ran out
 abbrev pub Yields : Status → Status → Type 0
 Yields status expected = (status ≡ expected) ⊎ (status ≡ ReadFault) ⊎ (status ≡ NoMemory)
 
--- the status of a run whose file holds a model
-abbrev pub IsModelStatus : Status → Type 0
-IsModelStatus status = (status ≡ Complete) ⊎ (status ≡ WriteFault) ⊎ (status ≡ ReadFault) ⊎ (status ≡ NoMemory)
+-- the model's text was written, or is too long
+abbrev pub IsDumpStatus : Status → Type 0
+IsDumpStatus status = (status ≡ Printed) ⊎ ((n : ℕ) × (status ≡ DumpTooLong n))
 
--- what was written before memory ran out: nothing, or a front of the report with so many blocks whole
-abbrev pub StoppedAt : Option FileMap → List ℕ → List ℕ → Counts → Type 0
-StoppedAt told name done counts =
+-- the status of a run whose file holds a model, by whether its text was asked for
+abbrev pub IsModelStatus : Bool → Status → Type 0
+IsModelStatus true status = IsDumpStatus status ⊎ (status ≡ WriteFault) ⊎ (status ≡ ReadFault) ⊎ (status ≡ NoMemory)
+IsModelStatus false status = (status ≡ Complete) ⊎ (status ≡ WriteFault) ⊎ (status ≡ ReadFault) ⊎ (status ≡ NoMemory)
+
+-- What was written before memory ran out: nothing, or a front of the report, and so many solutions were counted.
+abbrev pub StoppedAt : Option FileMap → Option Asked → List ℕ → Counts → Type 0
+StoppedAt told asks done counts =
     ((done ≡ []) × HasNone counts)
-    ⊎ ((p : Problem) × IsTheModel told name p × IsFrontOfReport p done × CountsBlocks p done counts.solutions)
+    ⊎ IsSomeAnd asks (λ a. (a.redump ≡ false) × (p : Problem) × IsTheModel told a.model p × IsFrontOfReport a.print_sols p done × CountsSolutions a.print_sols p done counts.solutions)

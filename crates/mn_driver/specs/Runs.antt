@@ -1,11 +1,12 @@
 -- What a run owes, by what the words ask for and what the named file holds.
-use Rattle.std.specs.Prelude.{◌≡◌, ℕ, ◌<◌, ◌≤◌, ◌⊎◌, List, ◌++◌, length, Option, IfSome, Some, None}
+use Rattle.std.specs.Prelude.{◌≡◌, ℕ, ◌+◌, ◌⊎◌, List, ◌++◌, take, Option, IfSome, Some, None}
 use Rattle.mn_model.specs.Problem.{Problem}
-use Rattle.mn_model.specs.declared.limits.TheConstants.{TEXT_BYTES}
+use Rattle.mn_model.specs.declared.refusal.Refusal.{Refusal}
 use Rattle.mn_outside.specs.Content.{FileMap, file_at, with_bytes}
 use Rattle.mn_outside.specs.Faults.{HasRisen}
-use Rattle.mn_outside.specs.Reading.{IsLongerFile}
-use Rattle.mn_reader.specs.Reads.{Reads}
+use Rattle.mn_outside.specs.Reading.{line_ends}
+use Rattle.mn_language.specs.Texts.{IsRefused, Reads}
+use Rattle.mn_report.specs.Lines.{place_of}
 use Rattle.mn_driver.specs.Written.{IsFrontOf}
 
 -- the files tell that the named one is there and has these bytes
@@ -16,7 +17,6 @@ Tells told name text = (files : FileMap) × (told ≡ Some files) × (file_at fi
 pub record HoldsModel (told : Option FileMap) (name : List ℕ) (p : Problem) : Type 0 where
   pub text : List ℕ
   pub there : Tells told name text
-  pub fits : length text ≤ TEXT_BYTES
   pub reads : Reads text p
 
 -- where the files tell their content, p is the one instance of which the named file holds a text
@@ -24,24 +24,20 @@ pub record IsTheModel (told : Option FileMap) (name : List ℕ) (p : Problem) : 
   pub held : IfSome told (λ _. HoldsModel told name p)
   pub only : (r : Problem) → HoldsModel told name r → r ≡ p
 
--- the named file holds a text that is too long
-abbrev pub HoldsLongText : Option FileMap → List ℕ → Type 0
-HoldsLongText told name = (text : List ℕ) × Tells told name text × (TEXT_BYTES < length text)
+-- the line at a place of a text, counted from 1
+abbrev pub line_at : List ℕ → ℕ → ℕ
+line_at text at = line_ends (take at text) + 1
 
--- the named file holds a text that stands for no instance
-pub record HoldsOtherText (told : Option FileMap) (name : List ℕ) : Type 0 where
+-- the named file holds a text that is refused so, at this line
+pub record HoldsRefused (told : Option FileMap) (name : List ℕ) (why : Refusal) (line : ℕ) : Type 0 where
   pub text : List ℕ
   pub there : Tells told name text
-  pub fits : length text ≤ TEXT_BYTES
-  pub unread : (p : Problem) → Reads text p → ⊥
+  pub refused : IsRefused text why
+  pub line_is : line ≡ line_at text (place_of why)
 
--- where the files tell their content, the named file holds a text that is too long, and so many lines end before its limit
-abbrev pub IsLong : Option FileMap → List ℕ → ℕ → Type 0
-IsLong told name lines = IsLongerFile told name TEXT_BYTES lines
-
--- where the files tell their content, the named file holds a text that stands for no instance
-abbrev pub IsOther : Option FileMap → List ℕ → Type 0
-IsOther told name = IfSome told (λ _. HoldsOtherText told name)
+-- where the files tell their content, the named file holds a text that is refused so
+abbrev pub IsTheRefused : Option FileMap → List ℕ → Refusal → ℕ → Type 0
+IsTheRefused told name why line = IfSome told (λ _. HoldsRefused told name why line)
 
 -- These bytes were added, and a line behind them; less than the whole line stands only where the sink's count rose.
 abbrev pub AddsLine : Option (List ℕ) → Option (List ℕ) → ℕ → ℕ → List ℕ → List ℕ → Type 0

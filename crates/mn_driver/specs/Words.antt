@@ -1,10 +1,26 @@
 -- What the words of the command line ask for.
-use Rattle.std.specs.Prelude.{ℕ, ◌&&◌, not, ◌==◌, if◌then◌else◌, List, [], ◌∷◌, codes, slice_index, Option, Some, None}
-use Rattle.std.specs.Str.{bytes_eq}
+use Rattle.std.specs.Prelude.{ℕ, Bool, not, List, map, Option, Some, None, string_bytes}
+use Rattle.mn_options.specs.Meant.{model_name}
+use Rattle.mn_options.specs.Rules.{asks_for, first_broken}
+use Rattle.mn_options.specs.Words.{word_of}
+use Rattle.mn_options.specs.declared.table.CommandOption.TheVariants.{NoPrintSols, Redump}
+use Rattle.mn_options.specs.declared.usage.Usage.{Usage}
+use Rattle.mn_driver.specs.declared.request.Request.{Request}
 
--- The model's name: the words are `-findallsols` and a word that doesn't begin with `-`. Else nothing is asked for.
-abbrev pub asked : List (List ℕ) → Option (List ℕ)
-asked [] = None
-asked (option ∷ []) = None
-asked (option ∷ name ∷ []) = if bytes_eq option (codes "-findallsols") && not (slice_index name 0 == 45) then Some name else None
-asked (option ∷ name ∷ other ∷ words) = None
+-- the model that lawful words name, whether its solutions are printed, and whether its text is written in their place
+pub record Asked : Type 0 where
+  pub model : List ℕ
+  pub print_sols : Bool
+  pub redump : Bool
+
+-- words that break a rule ask for nothing
+abbrev pub asked_unless : Option Usage → Option (List ℕ) → Bool → Bool → Option Asked
+asked_unless None (Some model) shown redump = Some (record { model = model; print_sols = shown; redump = redump })
+asked_unless _ _ shown redump = None
+
+abbrev pub asked : List (List ℕ) → Option Asked
+asked words = asked_unless (first_broken words) (model_name words) (not (asks_for NoPrintSols (map word_of words))) (asks_for Redump (map word_of words))
+
+-- the same as it is handed on
+abbrev pub asked_of : Request → Asked
+asked_of request = record { model = string_bytes request.model; print_sols = request.print_sols; redump = request.redump }

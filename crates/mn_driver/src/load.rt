@@ -1,20 +1,23 @@
-ghost use Rattle.std.specs.Prelude.{◌≡◌, IfErr, IfOk};
+ghost use Rattle.std.specs.Prelude.{◌≡◌, ◌≤◌, IfErr, IfOk, length};
+ghost use Rattle.mn_model.specs.declared.limits.TheConstants.{TEXT_BYTES};
 ghost use Rattle.mn_outside.specs.Faults.{HasRisen, NoneFell};
-ghost use Rattle.mn_driver.specs.Loads.{Unloads, unfetched, unread};
-ghost use Rattle.mn_driver.specs.Runs.{IsTheModel};
+ghost use Rattle.mn_outside.specs.Reading.{line_ends};
+ghost use Rattle.mn_driver.specs.Loads.{HasFewLines, IsOfText, Unloads, unfetched, unread};
+ghost use Rattle.mn_driver.specs.Runs.{IsTheModel, line_at};
 
-use mn_model::{Instance, Refusal, TEXT_BYTES};
+use mn_language::one_instance;
+use mn_model::{Instance, Refusal, TEXT_BYTES, Which};
 use mn_outside::{FetchFault, Files, fetch_all};
 use mn_reader::read;
+use mn_report::place_of;
 use std::alloc::Global;
 
 /// Why no instance came of the named file.
 #[derive(Clone, Copy, Debug, PartialEq, Eq)]
 pub enum Unloaded {
     Failed,
-    /// The file is too long. The number is that of the lines that end before the limit.
-    TooLong(u64),
-    Other,
+    /// The text is refused. The number is that of the line, counted from 1.
+    Refused(Refusal, u64),
     NoMemory,
 }
 
@@ -22,35 +25,58 @@ pub enum Unloaded {
 pub fn load<F: Files>(alloc: Global, files: &mut F, name: &str) -> Result<Instance, Unloaded>
     ensures model { IfOk result (λ p. IsTheModel (F.content files.old) name.now p) }
     ensures unloaded { IfErr result (Unloads (F.content files.old) name.now) }
+    ensures of_text { IfErr result IsOfText }
     ensures failed { IfErr result (λ why. why ≡ Unloaded.Failed
         → HasRisen (F.reading files.old name.now) (F.reading files.new name.now)) }
     ensures same_content { F.content files.new ≡ F.content files.old }
 {
+    one_instance();
     let text = match fetch_all(alloc, files, name, TEXT_BYTES) {
         Ok(text) => text,
         Err(fault) => return Err(unfetched(fault)),
     };
-    match read(alloc, text.as_slice()) {
+    let bytes = text.as_slice();
+    match read(alloc, bytes) {
         Ok(inst) => Ok(inst),
-        Err(refusal) => Err(unread(refusal)),
+        Err(why) => Err(unread(why, bytes)),
     }
 }
 
 fn unfetched(fault: FetchFault) -> Unloaded
+    requires { HasFewLines fault }
     ensures { result ≡ unfetched fault }
 {
     match fault {
         FetchFault::Failed => Unloaded::Failed,
-        FetchFault::TooLong(lines) => Unloaded::TooLong(lines),
+        FetchFault::TooLong(lines) => {
+            Unloaded::Refused(Refusal::Limit(Which::Text, TEXT_BYTES), lines + 1)
+        }
         FetchFault::NoMemory => Unloaded::NoMemory,
     }
 }
 
-fn unread(refusal: Refusal) -> Unloaded
-    ensures { result ≡ unread refusal }
+fn unread(why: Refusal, text: &[u8]) -> Unloaded
+    requires { length text.now ≤ TEXT_BYTES }
+    ensures { result ≡ unread why text.now }
 {
-    match refusal {
+    match why {
         Refusal::NoMemory => Unloaded::NoMemory,
-        _ => Unloaded::Other,
+        why => Unloaded::Refused(why, line_at(text, place_of(&why))),
     }
+}
+
+/// The line at a byte of the text, counted from 1.
+fn line_at(text: &[u8], at: u64) -> u64
+    requires { length text.now ≤ TEXT_BYTES }
+    ensures { result ≡ line_at text.now at }
+{
+    let before = at.min(text.len() as u64) as usize;
+    line_count(&text[..before]) + 1
+}
+
+fn line_count(bytes: &[u8]) -> u64
+    ensures count { result ≡ line_ends bytes.now }
+    ensures within { result ≤ length bytes.now }
+{
+    bytes.iter().filter(|byte| **byte == b'\n').count() as u64
 }

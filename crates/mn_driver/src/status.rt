@@ -2,6 +2,7 @@ ghost use Rattle.std.specs.Prelude.{◌≡◌};
 ghost use Rattle.mn_driver.specs.Codes.{code_of};
 
 use mn_model::Refusal;
+use mn_options::Usage;
 
 /// How a run ended, and what it did. Counts stand still at their greatest value.
 #[derive(Clone, Copy, Debug, PartialEq, Eq)]
@@ -9,14 +10,14 @@ pub struct Ended {
     pub status: Status,
     /// The visits of the search.
     pub nodes: u64,
-    /// The solutions whose block was written whole.
+    /// The solutions whose block was written whole, or where solutions aren't printed those that were found.
     pub solutions: u64,
 }
 
 /// What a run did, whatever its end.
 #[derive(Clone, Copy, Debug, PartialEq, Eq)]
 pub struct Counts {
-    /// The solutions whose block was written whole.
+    /// The solutions whose block was written whole, or where solutions aren't printed those that were found.
     pub solutions: u64,
     /// The visits of the search.
     pub nodes: u64,
@@ -35,6 +36,8 @@ impl Counts {
 pub enum Status {
     /// All solutions were written.
     Complete,
+    /// The model's text was written, as it was asked for in place of its solutions.
+    Printed,
     /// The text stands for no instance.
     Refused(Refusal),
     /// The words break a rule.
@@ -43,15 +46,10 @@ pub enum Status {
     ReadFault,
     /// The output failed.
     WriteFault,
+    /// The model's text, which was asked for, has too many bytes: so many.
+    DumpTooLong(u64),
     /// Memory ran out.
     NoMemory,
-}
-
-/// Which rule the words break. The number is that of the word, counted from 0.
-#[derive(Clone, Copy, Debug, PartialEq, Eq)]
-pub enum Usage {
-    /// A word that isn't known in its place.
-    Unknown(u64),
 }
 
 impl Status {
@@ -60,11 +58,12 @@ impl Status {
         ensures { result ≡ code_of self.now }
     {
         match self {
-            Status::Complete => 0,
+            Status::Complete | Status::Printed => 0,
             Status::Refused(_) => 1,
             Status::Usage(_) => 2,
             Status::ReadFault => 3,
             Status::WriteFault => 4,
+            Status::DumpTooLong(_) => 5,
             Status::NoMemory => 6,
         }
     }

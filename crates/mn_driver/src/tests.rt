@@ -3,17 +3,6 @@ use mn_outside::{MemFiles, MemSink};
 use std::alloc::{AllocError, Global};
 use std::test::Fail;
 
-/// A file `m` of this text, an output that fails at these calls, and what is expected.
-#[derive(Drop)]
-struct Row {
-    text: &'static [u8],
-    fail: u64,
-    status: u8,
-    solutions: u64,
-    nodes: u64,
-    written: &'static [u8],
-}
-
 const TWO: &[u8] = b"MINION 3\n**VARIABLES**\nBOOL x\nBOOL y\n**CONSTRAINTS**\n**EOF**\n";
 
 const DIFFERENT: &[u8] =
@@ -27,6 +16,280 @@ const NEVER: &[u8] = b"MINION 3\n**VARIABLES**\nBOOL x\n**CONSTRAINTS**\ndiseq(x
 
 const NOTHING: &[u8] = b"MINION 3\n**VARIABLES**\n**CONSTRAINTS**\n**EOF**\n";
 
+const LESS: &[u8] =
+    b"MINION 3\n**VARIABLES**\nDISCRETE x {0..2}\nDISCRETE y {0..2}\n**SEARCH**\nVARORDER [x,y]\n**CONSTRAINTS**\nineq(x,y,-1)\n**EOF**\n";
+
+const DOWN: &[u8] =
+    b"MINION 3\n**VARIABLES**\nDISCRETE x {0..2}\nDISCRETE y {0..2}\n**SEARCH**\nVARORDER [x,y]\nVALORDER [d,a]\n**CONSTRAINTS**\nineq(x,y,-1)\n**EOF**\n";
+
+const HOLE: &[u8] =
+    b"MINION 3\n**VARIABLES**\nBOUND x {0..4}\n**CONSTRAINTS**\ndiseq(x,2)\n**EOF**\n";
+
+const INTERVALS: &[u8] =
+    b"MINION 3\n**VARIABLES**\nDISCRETE x {0..9}\n**CONSTRAINTS**\nw-inintervalset(x,[7,8,2,3])\n**EOF**\n";
+
+const TWICE: &[u8] = b"MINION 3\n**VARIABLES**\nBOOL x\nBOOL x\n**EOF**\n";
+
+const ALL: &[&str] = &["-findallsols", "m"];
+
+/// Words, a file `m` of this text, an output that fails at this call, and what is expected.
+#[derive(Drop)]
+struct Row {
+    words: &'static [&'static str],
+    text: &'static [u8],
+    fail: u64,
+    status: u8,
+    solutions: u64,
+    nodes: u64,
+    written: &'static [u8],
+}
+
+const ROWS: [Row; 27] = [
+    Row {
+        words: ALL,
+        text: TWO,
+        fail: 0,
+        status: 0,
+        solutions: 4,
+        nodes: 7,
+        written: b"Sol: 0 0\nSolution Number: 1\nSol: 0 1\nSolution Number: 2\nSol: 1 0\nSolution Number: 3\nSol: 1 1\nSolution Number: 4\nSolutions: 4\nNodes: 7\nOutcome: complete\n",
+    },
+    Row {
+        words: ALL,
+        text: DIFFERENT,
+        fail: 0,
+        status: 0,
+        solutions: 2,
+        nodes: 3,
+        written: b"Sol: 0 1\nSolution Number: 1\nSol: 1 0\nSolution Number: 2\nSolutions: 2\nNodes: 3\nOutcome: complete\n",
+    },
+    Row {
+        words: ALL,
+        text: SAME,
+        fail: 0,
+        status: 0,
+        solutions: 2,
+        nodes: 3,
+        written: b"Sol: 0 0\nSolution Number: 1\nSol: 1 1\nSolution Number: 2\nSolutions: 2\nNodes: 3\nOutcome: complete\n",
+    },
+    Row {
+        words: ALL,
+        text: NEVER,
+        fail: 0,
+        status: 0,
+        solutions: 0,
+        nodes: 3,
+        written: b"Solutions: 0\nNodes: 3\nOutcome: complete\n",
+    },
+    Row {
+        words: ALL,
+        text: NOTHING,
+        fail: 0,
+        status: 0,
+        solutions: 1,
+        nodes: 1,
+        written: b"Sol:\nSolution Number: 1\nSolutions: 1\nNodes: 1\nOutcome: complete\n",
+    },
+    Row {
+        words: ALL,
+        text: LESS,
+        fail: 0,
+        status: 0,
+        solutions: 3,
+        nodes: 5,
+        written: b"Sol: 0 1\nSolution Number: 1\nSol: 0 2\nSolution Number: 2\nSol: 1 2\nSolution Number: 3\nSolutions: 3\nNodes: 5\nOutcome: complete\n",
+    },
+    Row {
+        words: ALL,
+        text: DOWN,
+        fail: 0,
+        status: 0,
+        solutions: 3,
+        nodes: 5,
+        written: b"Sol: 1 2\nSolution Number: 1\nSol: 0 1\nSolution Number: 2\nSol: 0 2\nSolution Number: 3\nSolutions: 3\nNodes: 5\nOutcome: complete\n",
+    },
+    Row {
+        words: ALL,
+        text: HOLE,
+        fail: 0,
+        status: 0,
+        solutions: 4,
+        nodes: 7,
+        written: b"Sol: 0\nSolution Number: 1\nSol: 1\nSolution Number: 2\nSol: 3\nSolution Number: 3\nSol: 4\nSolution Number: 4\nSolutions: 4\nNodes: 7\nOutcome: complete\n",
+    },
+    Row {
+        words: ALL,
+        text: INTERVALS,
+        fail: 0,
+        status: 0,
+        solutions: 4,
+        nodes: 7,
+        written: b"Sol: 2\nSolution Number: 1\nSol: 3\nSolution Number: 2\nSol: 7\nSolution Number: 3\nSol: 8\nSolution Number: 4\nSolutions: 4\nNodes: 7\nOutcome: complete\n",
+    },
+    Row {
+        words: ALL,
+        text: CUT,
+        fail: 0,
+        status: 1,
+        solutions: 0,
+        nodes: 0,
+        written: b"Refused: syntax, byte 64, line 7\n",
+    },
+    Row {
+        words: ALL,
+        text: TWICE,
+        fail: 0,
+        status: 1,
+        solutions: 0,
+        nodes: 0,
+        written: b"Refused: name, byte 35, line 4\n",
+    },
+    Row {
+        words: ALL,
+        text: TWO,
+        fail: 2,
+        status: 4,
+        solutions: 1,
+        nodes: 4,
+        written: b"Sol: 0 0\nSolution Number: 1\n",
+    },
+    Row {
+        words: ALL,
+        text: TWO,
+        fail: 5,
+        status: 4,
+        solutions: 4,
+        nodes: 7,
+        written: b"Sol: 0 0\nSolution Number: 1\nSol: 0 1\nSolution Number: 2\nSol: 1 0\nSolution Number: 3\nSol: 1 1\nSolution Number: 4\n",
+    },
+    Row {
+        words: ALL,
+        text: NEVER,
+        fail: 2,
+        status: 4,
+        solutions: 0,
+        nodes: 3,
+        written: b"Solutions: 0\nNodes: 3\nOutcome: complete\n",
+    },
+    Row {
+        words: ALL,
+        text: CUT,
+        fail: 1,
+        status: 1,
+        solutions: 0,
+        nodes: 0,
+        written: b"",
+    },
+    Row {
+        words: &["m", "-noprintsols", "-noresume"],
+        text: TWO,
+        fail: 0,
+        status: 0,
+        solutions: 4,
+        nodes: 7,
+        written: b"Solutions: 4\nNodes: 7\nOutcome: complete\n",
+    },
+    Row {
+        words: &["-noprintsols", "m"],
+        text: TWO,
+        fail: 1,
+        status: 4,
+        solutions: 4,
+        nodes: 7,
+        written: b"",
+    },
+    Row {
+        words: &["-noprintsols", "m"],
+        text: TWO,
+        fail: 2,
+        status: 4,
+        solutions: 4,
+        nodes: 7,
+        written: b"Solutions: 4\nNodes: 7\nOutcome: complete\n",
+    },
+    Row {
+        words: &["m", "-noresume"],
+        text: DIFFERENT,
+        fail: 0,
+        status: 0,
+        solutions: 2,
+        nodes: 3,
+        written: b"Sol: 0 1\nSolution Number: 1\nSol: 1 0\nSolution Number: 2\nSolutions: 2\nNodes: 3\nOutcome: complete\n",
+    },
+    Row {
+        words: &[],
+        text: TWO,
+        fail: 0,
+        status: 2,
+        solutions: 0,
+        nodes: 0,
+        written: b"Usage: no model\n",
+    },
+    Row {
+        words: &["-findallsols", "-findallsols", "m"],
+        text: TWO,
+        fail: 0,
+        status: 2,
+        solutions: 0,
+        nodes: 0,
+        written: b"Usage: twice, word 1\n",
+    },
+    Row {
+        words: &["m", "b"],
+        text: TWO,
+        fail: 0,
+        status: 2,
+        solutions: 0,
+        nodes: 0,
+        written: b"Usage: second model, word 1\n",
+    },
+    Row {
+        words: &["-wat", "m"],
+        text: TWO,
+        fail: 0,
+        status: 2,
+        solutions: 0,
+        nodes: 0,
+        written: b"Usage: unknown, word 0\n",
+    },
+    Row {
+        words: &["m", "-redump"],
+        text: LESS,
+        fail: 0,
+        status: 0,
+        solutions: 0,
+        nodes: 0,
+        written: b"MINION 3\n**VARIABLES**\nDISCRETE x {0..2}\nDISCRETE y {0..2}\n**TUPLELIST**\n**SEARCH**\nVARORDER [x,y]\nPRINT ALL\n**CONSTRAINTS**\nineq(x,y,-1)\n**EOF**\n",
+    },
+    Row {
+        words: &["m", "-redump"],
+        text: LESS,
+        fail: 1,
+        status: 4,
+        solutions: 0,
+        nodes: 0,
+        written: b"",
+    },
+    Row {
+        words: &["missing"],
+        text: TWO,
+        fail: 0,
+        status: 3,
+        solutions: 0,
+        nodes: 0,
+        written: b"Fault: read\n",
+    },
+    Row {
+        words: &["missing"],
+        text: TWO,
+        fail: 1,
+        status: 3,
+        solutions: 0,
+        nodes: 0,
+        written: b"",
+    },
+];
+
 /// The number of the status, the numbers of solutions and nodes, and whether the output is the expected one.
 fn outcome(alloc: Global, row: &Row) -> Result<(u8, u64, u64, bool), AllocError> {
     let mut files = MemFiles::new(alloc, Vec::new(alloc));
@@ -35,8 +298,9 @@ fn outcome(alloc: Global, row: &Row) -> Result<(u8, u64, u64, bool), AllocError>
     failing.push(row.fail)?;
     let mut out = MemSink::new(alloc, failing);
     let mut words = Vec::new(alloc);
-    words.push(String::from_str(alloc, "-findallsols")?)?;
-    words.push(String::from_str(alloc, "m")?)?;
+    for word in row.words {
+        words.push(String::from_str(alloc, word)?)?;
+    }
     let ended = run(alloc, &words, &mut files, &mut out);
     Ok((
         ended.status.code(),
@@ -47,139 +311,13 @@ fn outcome(alloc: Global, row: &Row) -> Result<(u8, u64, u64, bool), AllocError>
 }
 
 #[test]
-fn writes_reports(rt: HostRuntime) -> Result<(), Fail> {
-    let rows = [
-        Row {
-            text: TWO,
-            fail: 0,
-            status: 0,
-            solutions: 4,
-            nodes: 7,
-            written: b"Sol: 0 0\nSolution Number: 1\nSol: 0 1\nSolution Number: 2\nSol: 1 0\nSolution Number: 3\nSol: 1 1\nSolution Number: 4\nSolutions: 4\nNodes: 7\nOutcome: complete\n",
-        },
-        Row {
-            text: DIFFERENT,
-            fail: 0,
-            status: 0,
-            solutions: 2,
-            nodes: 3,
-            written: b"Sol: 0 1\nSolution Number: 1\nSol: 1 0\nSolution Number: 2\nSolutions: 2\nNodes: 3\nOutcome: complete\n",
-        },
-        Row {
-            text: SAME,
-            fail: 0,
-            status: 0,
-            solutions: 2,
-            nodes: 3,
-            written: b"Sol: 0 0\nSolution Number: 1\nSol: 1 1\nSolution Number: 2\nSolutions: 2\nNodes: 3\nOutcome: complete\n",
-        },
-        Row {
-            text: NEVER,
-            fail: 0,
-            status: 0,
-            solutions: 0,
-            nodes: 3,
-            written: b"Solutions: 0\nNodes: 3\nOutcome: complete\n",
-        },
-        Row {
-            text: NOTHING,
-            fail: 0,
-            status: 0,
-            solutions: 1,
-            nodes: 1,
-            written: b"Sol:\nSolution Number: 1\nSolutions: 1\nNodes: 1\nOutcome: complete\n",
-        },
-        Row {
-            text: CUT,
-            fail: 0,
-            status: 1,
-            solutions: 0,
-            nodes: 0,
-            written: b"Refused: unsupported, byte 0, line 1\n",
-        },
-        Row {
-            text: TWO,
-            fail: 2,
-            status: 4,
-            solutions: 1,
-            nodes: 4,
-            written: b"Sol: 0 0\nSolution Number: 1\n",
-        },
-        Row {
-            text: TWO,
-            fail: 5,
-            status: 4,
-            solutions: 4,
-            nodes: 7,
-            written: b"Sol: 0 0\nSolution Number: 1\nSol: 0 1\nSolution Number: 2\nSol: 1 0\nSolution Number: 3\nSol: 1 1\nSolution Number: 4\n",
-        },
-        Row {
-            text: NEVER,
-            fail: 2,
-            status: 4,
-            solutions: 0,
-            nodes: 3,
-            written: b"Solutions: 0\nNodes: 3\nOutcome: complete\n",
-        },
-        Row {
-            text: CUT,
-            fail: 1,
-            status: 1,
-            solutions: 0,
-            nodes: 0,
-            written: b"",
-        },
-    ];
-    for (at, row) in rows.iter().enumerate() {
+fn runs_are_as_worked_out(rt: HostRuntime) -> Result<(), Fail> {
+    for (at, row) in ROWS.iter().enumerate() {
         let (status, solutions, nodes, written) = outcome(rt.alloc(), row)?;
         assert_eq!(rt; status, row.status, "status of row {at}");
         assert_eq!(rt; solutions, row.solutions, "solutions of row {at}");
         assert_eq!(rt; nodes, row.nodes, "nodes of row {at}");
         assert!(rt; written, "output of row {at}");
     }
-    Ok(())
-}
-
-/// The number of the status that these words end with, where no file is there, and what is written.
-fn outcome_of_words(
-    alloc: Global,
-    texts: &[&str],
-    written: &[u8],
-) -> Result<(u8, bool), AllocError> {
-    let mut files = MemFiles::new(alloc, Vec::new(alloc));
-    let mut out = MemSink::new(alloc, Vec::new(alloc));
-    let mut words = Vec::new(alloc);
-    for text in texts {
-        words.push(String::from_str(alloc, text)?)?;
-    }
-    let ended = run(alloc, &words, &mut files, &mut out);
-    Ok((ended.status.code(), out.written() == written))
-}
-
-#[test]
-fn refuses_words(rt: HostRuntime) -> Result<(), Fail> {
-    let usage = b"Usage: unknown, word 0\n".as_slice();
-    let alloc = rt.alloc();
-    assert_eq!(rt; outcome_of_words(alloc, &[], usage)?, (2, true));
-    assert_eq!(rt;
-        outcome_of_words(alloc, &["-findallsols"], usage)?,
-        (2, true)
-    );
-    assert_eq!(rt;
-        outcome_of_words(alloc, &["-findallsols", "-wat"], usage)?,
-        (2, true)
-    );
-    assert_eq!(rt;
-        outcome_of_words(alloc, &["m", "-findallsols"], usage)?,
-        (2, true)
-    );
-    assert_eq!(rt;
-        outcome_of_words(alloc, &["-findallsols", "a", "b"], usage)?,
-        (2, true)
-    );
-    assert_eq!(rt;
-        outcome_of_words(alloc, &["-findallsols", "missing"], b"Fault: read\n")?,
-        (3, true)
-    );
     Ok(())
 }

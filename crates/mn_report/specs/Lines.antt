@@ -56,6 +56,10 @@ place_of NoMemory = 0
 abbrev pub refused_text : Refusal → ℕ → List ℕ
 refused_text why line = codes "Refused: " ++ kind_text why ++ codes ", byte " ++ decimal (place_of why) ++ codes ", line " ++ decimal line ++ codes "\n"
 
+-- the line of a rule that a word of the command line breaks
+abbrev pub usage_text : List ℕ → ℕ → List ℕ
+usage_text rule word = codes "Usage: " ++ rule ++ codes ", word " ++ decimal word ++ codes "\n"
+
 -- a line with a number in it
 abbrev pub number_text : List ℕ → ℕ → List ℕ → List ℕ
 number_text before n after = before ++ decimal n ++ after ++ codes "\n"

@@ -13,5 +13,8 @@ mod lines;
 mod tests;
 
 pub use blocks::{block, write_block};
-pub use lines::{MEMORY_LINE, Outcome, READ_LINE, number_line, refused_line, summary};
+pub use lines::{
+    MEMORY_LINE, NO_MODEL_LINE, Outcome, READ_LINE, number_line, place_of, refused_line, summary,
+    usage_line,
+};
 pub use std::alloc::AllocError as NoMemory;

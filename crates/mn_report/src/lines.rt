@@ -1,6 +1,6 @@
 ghost use Rattle.std.specs.Prelude.{◌≡◌, ◌≢◌, IfOk};
 ghost use Rattle.mn_model.specs.declared.refusal.Refusal.{Refusal};
-ghost use Rattle.mn_report.specs.Lines.{kind_text, limit_text, number_text, outcome_text, place_of, refused_text, summary_text};
+ghost use Rattle.mn_report.specs.Lines.{kind_text, limit_text, number_text, outcome_text, place_of, refused_text, summary_text, usage_text};
 
 use itoa::Buffer;
 use mn_model::{Refusal, Which};
@@ -10,6 +10,8 @@ use std::alloc::{AllocError, Global};
 pub const READ_LINE: &[u8] = b"Fault: read\n";
 /// Memory ran out.
 pub const MEMORY_LINE: &[u8] = b"Fault: no memory\n";
+/// The words of the command line name no model.
+pub const NO_MODEL_LINE: &[u8] = b"Usage: no model\n";
 
 /// How a search ended.
 #[derive(Clone, Copy, Debug, PartialEq, Eq)]
@@ -82,7 +84,8 @@ fn kind_name(why: &Refusal) -> &'static str
     }
 }
 
-fn place_of(why: &Refusal) -> u64
+/// The byte of a refusal, and 0 where memory is wanting.
+pub fn place_of(why: &Refusal) -> u64
     ensures { result ≡ place_of why.now }
 {
     match why {
@@ -110,6 +113,19 @@ pub fn refused_line(alloc: Global, why: &Refusal, line: u64) -> Result<Vec<u8>, 
     text.extend_from_slice(digits.format(place_of(why)).as_bytes())?;
     text.extend_from_slice(b", line ")?;
     text.extend_from_slice(digits.format(line).as_bytes())?;
+    text.extend_from_slice(b"\n")?;
+    Ok(text)
+}
+
+/// The line of a rule that a word of the command line breaks. The word's number is counted from 0.
+pub fn usage_line(alloc: Global, rule: &str, word: u64) -> Result<Vec<u8>, AllocError>
+    ensures { IfOk result (λ text. text.items ≡ usage_text rule.now word) }
+{
+    let mut digits = Buffer::new();
+    let mut text = Vec::from_slice(alloc, b"Usage: ")?;
+    text.extend_from_slice(rule.as_bytes())?;
+    text.extend_from_slice(b", word ")?;
+    text.extend_from_slice(digits.format(word).as_bytes())?;
     text.extend_from_slice(b"\n")?;
     Ok(text)
 }

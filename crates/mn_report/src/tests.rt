@@ -89,6 +89,10 @@ fn a_refusal_has_its_line(rt: HostRuntime) -> Result<(), Fail> {
 #[test]
 fn a_number_stands_in_its_line(rt: HostRuntime) -> Result<(), Fail> {
     assert_eq!(rt;
+        usage_line(rt.alloc(), "second model", 1)?.as_slice(),
+        b"Usage: second model, word 1\n".as_slice()
+    );
+    assert_eq!(rt;
         number_line(
             rt.alloc(),
             "Fault: model too large, ",
