@@ -20,7 +20,8 @@ use Rattle.mn_boxes.specs.Sets.{IsEnd, Variable}
 use Rattle.mn_boxes.proofs.Members.{StandsFirst, stands_first, is_first, StandsLast, stands_last, is_last}
 use Rattle.mn_boxes.proofs.Quiet.{ascends_at}
 use Rattle.mn_meaning.specs.Laws.{IsZeroOrOne}
-use Rattle.mn_meaning.proofs.MemberLemmas.{All-front, All-back}
+use Rattle.mn_meaning.proofs.Meant.{bit_of}
+use Rattle.mn_model.proofs.Children.{all_front, all_back}
 use Rattle.mn_closure.specs.Closed.{Asked, LeafClosed, signed, bit, IfSays, IfApart, IsAlone, PartsPossible, OnePossible, TwoPossible, PartsClosed, OneClosed, EachClosed, Closed, is_taken_apart}
 use Rattle.mn_closure.specs.Closures.{join}
 use Rattle.mn_closure.specs.Laws.{declared_sets}
@@ -126,12 +127,6 @@ leaf_join vars lists c one another cover k first second = record {
   ];
 }
 
--- a member of values that all are 0 or 1 is one of these
-pub bit_of : (values : List ℤ) (a : ℤ) → AllByRecursion IsZeroOrOne values → Has values a → IsZeroOrOne a
-bit_of [] a all has = absurd has
-bit_of (b ∷ values) a all (inl same) = subst IsZeroOrOne same all.0
-bit_of (b ∷ values) a all (inr later) = bit_of values a all.1 later
-
 -- a 0/1 variable has in the cover what it has in one of the two
 declared_has : (vars : List Variable) (box : List (List ℤ)) (v : ℕ) (a : ℤ) → IsBox vars box → AreBits (slice_get (declared_sets vars) v) → Has (set_of box v) a → IsZeroOrOne a
 declared_has [] [] v a is zeros has = absurd has
@@ -205,20 +200,20 @@ mutual
   parts_join vars lists (con.WatchedOr cs) says one another cover k zeros first second = says_both says (two_or_one vars lists cs true one another cover k (one_join vars lists cs true one another cover k zeros)) (each_join vars lists cs false one another cover k zeros) first second
   parts_join vars lists (con.WatchedAnd cs) says one another cover k zeros first second = says_both says (each_join vars lists cs true one another cover k zeros) (two_or_one vars lists cs false one another cover k (one_join vars lists cs false one another cover k zeros)) first second
   parts_join vars lists (con.Reify' p (more_of-Con c none) r) says one another cover k zeros first second =
-      let inner = All-front (IsBit (declared_sets vars)) (bits c) (r ∷ []) zeros in
-      let r_bit = (All-back (IsBit (declared_sets vars)) (bits c) (r ∷ []) zeros).0 in (
+      let inner = all_front (IsBit (declared_sets vars)) (bits c) (r ∷ []) zeros in
+      let r_bit = (all_back (IsBit (declared_sets vars)) (bits c) (r ∷ []) zeros).0 in (
         possible_join vars lists c true r (bit says) one another cover k r_bit first.0 second.0,
         possible_join vars lists c false r (bit (not says)) one another cover k r_bit first.1 second.1,
         (λ alone. parts_join vars lists c true one another cover k inner (first.2 (alone_in one cover k.in_one r (bit says) alone)) (second.2 (alone_in another cover k.in_another r (bit says) alone))),
         (λ alone. parts_join vars lists c false one another cover k inner (first.3 (alone_in one cover k.in_one r (bit (not says)) alone)) (second.3 (alone_in another cover k.in_another r (bit (not says)) alone))),
       )
   parts_join vars lists (con.Reifyimply' p (more_of-Con c none) r) true one another cover k zeros first second = (
-    possible_join vars lists c true r (pos 1) one another cover k (All-back (IsBit (declared_sets vars)) (bits c) (r ∷ []) zeros).0 first.0 second.0,
-    (λ alone. parts_join vars lists c true one another cover k (All-front (IsBit (declared_sets vars)) (bits c) (r ∷ []) zeros) (first.1 (alone_in one cover k.in_one r (pos 1) alone)) (second.1 (alone_in another cover k.in_another r (pos 1) alone))),
+    possible_join vars lists c true r (pos 1) one another cover k (all_back (IsBit (declared_sets vars)) (bits c) (r ∷ []) zeros).0 first.0 second.0,
+    (λ alone. parts_join vars lists c true one another cover k (all_front (IsBit (declared_sets vars)) (bits c) (r ∷ []) zeros) (first.1 (alone_in one cover k.in_one r (pos 1) alone)) (second.1 (alone_in another cover k.in_another r (pos 1) alone))),
   )
   parts_join vars lists (con.Reifyimply' p (more_of-Con c none) r) false one another cover k zeros first second = (
     leaf_join vars lists (con.WLiteral r (pos 1)) one another cover k first.0 second.0,
-    parts_join vars lists c false one another cover k (All-front (IsBit (declared_sets vars)) (bits c) (r ∷ []) zeros) first.1 second.1,
+    parts_join vars lists c false one another cover k (all_front (IsBit (declared_sets vars)) (bits c) (r ∷ []) zeros) first.1 second.1,
   )
   parts_join vars lists c says one another cover k zeros first second = leaf_join vars lists (signed says c) one another cover k first second
 
@@ -226,20 +221,20 @@ mutual
       → OneClosed vars lists cs says one → OneClosed vars lists cs says another → TwoPossible lists cs says cover ⊎ OneClosed vars lists cs says cover
   one_join vars lists con.End says one another cover k zeros first second = absurd first
   one_join vars lists (con.More' p (more_of-Con c none) q (more_of-Cons cs nothing)) says one another cover k zeros (inl x) (inl y) =
-      inr (inl (wider_parts lists c says one cover k.in_one x.0, parts_join vars lists c says one another cover k (All-front (IsBit (declared_sets vars)) (bits c) (bits_of cs) zeros) x.1 y.1))
+      inr (inl (wider_parts lists c says one cover k.in_one x.0, parts_join vars lists c says one another cover k (all_front (IsBit (declared_sets vars)) (bits c) (bits_of cs) zeros) x.1 y.1))
   one_join vars lists (con.More' p (more_of-Con c none) q (more_of-Cons cs nothing)) says one another cover k zeros (inl x) (inr later) =
       inl (inl (wider_parts lists c says one cover k.in_one x.0, wider_one lists cs says another cover k.in_another (closed_possible vars lists cs says another later)))
   one_join vars lists (con.More' p (more_of-Con c none) q (more_of-Cons cs nothing)) says one another cover k zeros (inr later) (inl y) =
       inl (inl (wider_parts lists c says another cover k.in_another y.0, wider_one lists cs says one cover k.in_one (closed_possible vars lists cs says one later)))
   one_join vars lists (con.More' p (more_of-Con c none) q (more_of-Cons cs nothing)) says one another cover k zeros (inr x) (inr y) =
-      ⊎_elim (λ two. inl (inr two)) (λ only. inr (inr only)) (one_join vars lists cs says one another cover k (All-back (IsBit (declared_sets vars)) (bits c) (bits_of cs) zeros) x y)
+      ⊎_elim (λ two. inl (inr two)) (λ only. inr (inr only)) (one_join vars lists cs says one another cover k (all_back (IsBit (declared_sets vars)) (bits c) (bits_of cs) zeros) x y)
 
   each_join : (vars : List Variable) (lists : List Tuples) (cs : Cons) (says : Bool) (one another cover : List (List ℤ)) → Covers vars one another cover → AllByRecursion (IsBit (declared_sets vars)) (bits_of cs)
       → EachClosed vars lists cs says one → EachClosed vars lists cs says another → EachClosed vars lists cs says cover
   each_join vars lists con.End says one another cover k zeros first second = tt
   each_join vars lists (con.More' p (more_of-Con c none) q (more_of-Cons cs nothing)) says one another cover k zeros first second = (
-    parts_join vars lists c says one another cover k (All-front (IsBit (declared_sets vars)) (bits c) (bits_of cs) zeros) first.0 second.0,
-    each_join vars lists cs says one another cover k (All-back (IsBit (declared_sets vars)) (bits c) (bits_of cs) zeros) first.1 second.1,
+    parts_join vars lists c says one another cover k (all_front (IsBit (declared_sets vars)) (bits c) (bits_of cs) zeros) first.0 second.0,
+    each_join vars lists cs says one another cover k (all_back (IsBit (declared_sets vars)) (bits c) (bits_of cs) zeros) first.1 second.1,
   )
 
 pub closed_join : (vars : List Variable) (lists : List Tuples) (c : Con) (says : Bool) (one another cover : List (List ℤ)) → Covers vars one another cover → AllByRecursion (IsBit (declared_sets vars)) (bits c)

@@ -16,7 +16,8 @@ use Rattle.mn_boxes.specs.Places.{PlaceHas}
 use Rattle.mn_boxes.specs.Sets.{Variable}
 use Rattle.mn_meaning.specs.Laws.{IsZeroOrOne, BitsAreBits}
 use Rattle.mn_meaning.specs.Meaning.{at, value_of, SomeMeet, EachMeets, Holds, decide_meets}
-use Rattle.mn_meaning.proofs.MemberLemmas.{All-front, All-back, AllByRecursion-append}
+use Rattle.mn_model.proofs.Children.{all_front, all_back}
+use Rattle.mn_meaning.proofs.MemberLemmas.{AllByRecursion-append}
 use Rattle.mn_meaning.proofs.Negating.{front_is, rest_is, behind_is, negation_holds}
 use Rattle.mn_closure.specs.Closed.{LeafClosed, signed, bit, IfSays, IfApart, IsAlone, PartsPossible, OnePossible, EachPossible, TwoPossible, Possible, PartsClosed, OneClosed, EachClosed, Closed, is_taken_apart}
 use Rattle.mn_closure.specs.Closures.{singles}
@@ -32,7 +33,7 @@ known_other n (Const k) known = tt
 known_other n (Not v) known = known
 
 swapped : (n : ℕ) (v w : List Term) → AllByRecursion (Known n) (v ++ w) → AllByRecursion (Known n) (w ++ v)
-swapped n v w known = AllByRecursion-append (Known n) w v (All-back (Known n) v w known) (All-front (Known n) v w known)
+swapped n v w known = AllByRecursion-append (Known n) w v (all_back (Known n) v w known) (all_front (Known n) v w known)
 
 longer : (n : ℕ) (v : List Term) (k : ℤ) → AllByRecursion (Known n) v → AllByRecursion (Known n) (v ++ Const k ∷ [])
 longer n v k known = AllByRecursion-append (Known n) v (Const k ∷ []) known (tt, tt)
@@ -50,16 +51,16 @@ mutual
   known_negation n (con.WatchedOr cs) known = known_negations n cs known
   known_negation n (con.WatchedAnd cs) known = known_negations n cs known
   known_negation n (con.Reify' p (more_of-Con c none) r) known =
-      AllByRecursion-append (Known n) (places c) (other r ∷ []) (All-front (Known n) (places c) (r ∷ []) known) (known_other n r (All-back (Known n) (places c) (r ∷ []) known).0, tt)
+      AllByRecursion-append (Known n) (places c) (other r ∷ []) (all_front (Known n) (places c) (r ∷ []) known) (known_other n r (all_back (Known n) (places c) (r ∷ []) known).0, tt)
   known_negation n (con.Reifyimply' p (more_of-Con c none) r) known =
-      ((All-back (Known n) (places c) (r ∷ []) known).0, AllByRecursion-append (Known n) (places (negation c)) [] (known_negation n c (All-front (Known n) (places c) (r ∷ []) known)) tt)
+      ((all_back (Known n) (places c) (r ∷ []) known).0, AllByRecursion-append (Known n) (places (negation c)) [] (known_negation n c (all_front (Known n) (places c) (r ∷ []) known)) tt)
   known_negation n (con.Negated' p (more_of-Con c none)) known = known
   known_negation n c known = known
 
   known_negations : (n : ℕ) (cs : Cons) → AllByRecursion (Known n) (places_of cs) → AllByRecursion (Known n) (places_of (negations cs))
   known_negations n con.End known = tt
   known_negations n (con.More' p (more_of-Con c none) q (more_of-Cons cs nothing)) known =
-      AllByRecursion-append (Known n) (places (negation c)) (places_of (negations cs)) (known_negation n c (All-front (Known n) (places c) (places_of cs) known)) (known_negations n cs (All-back (Known n) (places c) (places_of cs) known))
+      AllByRecursion-append (Known n) (places (negation c)) (places_of (negations cs)) (known_negation n c (all_front (Known n) (places c) (places_of cs) known)) (known_negations n cs (all_back (Known n) (places c) (places_of cs) known))
 
 -- what is so exactly where something else is
 pub through : {P Q R : Type 0} → P ↔ Q → Q ↔ R → P ↔ R
@@ -225,19 +226,19 @@ mutual
   parts_possible lists s (con.WatchedOr cs) says known zeros shaped = says_iff says (through (one_possible lists s cs true known zeros shaped) (some_meets lists s cs)) (through (each_possible lists s cs false known zeros shaped) (none_meets lists s cs))
   parts_possible lists s (con.WatchedAnd cs) says known zeros shaped = says_iff says (through (each_possible lists s cs true known zeros shaped) (each_meets lists s cs)) (through (one_possible lists s cs false known zeros shaped) (some_fails lists s cs))
   parts_possible lists s (con.Reify' p (more_of-Con c none) r) says known zeros shaped =
-      let k = All-front (Known (length s)) (places c) (r ∷ []) known in
-      let k_r = (All-back (Known (length s)) (places c) (r ∷ []) known).0 in
-      let z = All-front (Bit s) (bits c) (r ∷ []) zeros in
-      let z_r = (All-back (Bit s) (bits c) (r ∷ []) zeros).0 in
+      let k = all_front (Known (length s)) (places c) (r ∷ []) known in
+      let k_r = (all_back (Known (length s)) (places c) (r ∷ []) known).0 in
+      let z = all_front (Bit s) (bits c) (r ∷ []) zeros in
+      let z_r = (all_back (Bit s) (bits c) (r ∷ []) zeros).0 in
       rw (front_is (value_of (at s)) (places c) (r ∷ []), behind_is (value_of (at s)) (places c) r [])
       (through
       (either_iff (both_iff (has_iff s r (bit says) k_r) (parts_possible lists s c true k z shaped)) (both_iff (has_iff s r (bit (not says)) k_r) (parts_possible lists s c false k z shaped)))
       (reify_says says (value_of (at s) r) (Holds lists s c) z_r (decide_meets lists c (map (value_of (at s)) (places c)))))
   parts_possible lists s (con.Reifyimply' p (more_of-Con c none) r) says known zeros shaped =
-      let k = All-front (Known (length s)) (places c) (r ∷ []) known in
-      let k_r = (All-back (Known (length s)) (places c) (r ∷ []) known).0 in
-      let z = All-front (Bit s) (bits c) (r ∷ []) zeros in
-      let z_r = (All-back (Bit s) (bits c) (r ∷ []) zeros).0 in
+      let k = all_front (Known (length s)) (places c) (r ∷ []) known in
+      let k_r = (all_back (Known (length s)) (places c) (r ∷ []) known).0 in
+      let z = all_front (Bit s) (bits c) (r ∷ []) zeros in
+      let z_r = (all_back (Bit s) (bits c) (r ∷ []) zeros).0 in
       rw (front_is (value_of (at s)) (places c) (r ∷ []), behind_is (value_of (at s)) (places c) r [])
       (says_iff says
       (through (either_iff (has_iff s r (pos 0) k_r) (both_iff (has_iff s r (pos 1) k_r) (parts_possible lists s c true k z shaped))) (implies_says (value_of (at s) r) (Holds lists s c) z_r))
@@ -248,15 +249,15 @@ mutual
       → OnePossible lists cs says (singles s) ↔ SomeSays lists s cs says
   one_possible lists s con.End says known zeros shaped = (λ h. h, λ h. h)
   one_possible lists s (con.More' p (more_of-Con c none) q (more_of-Cons cs nothing)) says known zeros shaped =
-      either_iff (parts_possible lists s c says (All-front (Known (length s)) (places c) (places_of cs) known) (All-front (Bit s) (bits c) (bits_of cs) zeros) shaped.0)
-      (one_possible lists s cs says (All-back (Known (length s)) (places c) (places_of cs) known) (All-back (Bit s) (bits c) (bits_of cs) zeros) shaped.1)
+      either_iff (parts_possible lists s c says (all_front (Known (length s)) (places c) (places_of cs) known) (all_front (Bit s) (bits c) (bits_of cs) zeros) shaped.0)
+      (one_possible lists s cs says (all_back (Known (length s)) (places c) (places_of cs) known) (all_back (Bit s) (bits c) (bits_of cs) zeros) shaped.1)
 
   each_possible : (lists : List Tuples) (s : List ℤ) (cs : Cons) (says : Bool) → AllByRecursion (Known (length s)) (places_of cs) → AllByRecursion (Bit s) (bits_of cs) → AreShaped cs
       → EachPossible lists cs says (singles s) ↔ EachSays lists s cs says
   each_possible lists s con.End says known zeros shaped = (λ h. h, λ h. h)
   each_possible lists s (con.More' p (more_of-Con c none) q (more_of-Cons cs nothing)) says known zeros shaped =
-      both_iff (parts_possible lists s c says (All-front (Known (length s)) (places c) (places_of cs) known) (All-front (Bit s) (bits c) (bits_of cs) zeros) shaped.0)
-      (each_possible lists s cs says (All-back (Known (length s)) (places c) (places_of cs) known) (All-back (Bit s) (bits c) (bits_of cs) zeros) shaped.1)
+      both_iff (parts_possible lists s c says (all_front (Known (length s)) (places c) (places_of cs) known) (all_front (Bit s) (bits c) (bits_of cs) zeros) shaped.0)
+      (each_possible lists s cs says (all_back (Known (length s)) (places c) (places_of cs) known) (all_back (Bit s) (bits c) (bits_of cs) zeros) shaped.1)
 
 -- two children possible or one closed, of which some holds
 only_says : (vars : List Variable) (lists : List Tuples) (s : List ℤ) (cs : Cons) (says : Bool) → AllByRecursion (Known (length s)) (places_of cs) → AllByRecursion (Bit s) (bits_of cs) → AreShaped cs
@@ -275,10 +276,10 @@ mutual
       (through (each_closed vars lists s cs true known zeros shaped) (each_meets lists s cs))
       (through (only_says vars lists s cs false known zeros shaped (some_closed vars lists s cs false known zeros shaped)) (some_fails lists s cs))
   parts_closed vars lists s (con.Reify' p (more_of-Con c none) r) says known zeros shaped =
-      let k = All-front (Known (length s)) (places c) (r ∷ []) known in
-      let k_r = (All-back (Known (length s)) (places c) (r ∷ []) known).0 in
-      let z = All-front (Bit s) (bits c) (r ∷ []) zeros in
-      let z_r = (All-back (Bit s) (bits c) (r ∷ []) zeros).0 in
+      let k = all_front (Known (length s)) (places c) (r ∷ []) known in
+      let k_r = (all_back (Known (length s)) (places c) (r ∷ []) known).0 in
+      let z = all_front (Bit s) (bits c) (r ∷ []) zeros in
+      let z_r = (all_back (Bit s) (bits c) (r ∷ []) zeros).0 in
       rw (front_is (value_of (at s)) (places c) (r ∷ []), behind_is (value_of (at s)) (places c) r [])
       (through
       (reify_parts (has_iff s r (bit says) k_r) (has_iff s r (bit (not says)) k_r) (alone_iff s r (bit says) k_r) (alone_iff s r (bit (not says)) k_r)
@@ -286,9 +287,9 @@ mutual
       (bit_is says (value_of (at s) r) z_r) (bits_differ says (value_of (at s) r)))
       (reify_says says (value_of (at s) r) (Holds lists s c) z_r (decide_meets lists c (map (value_of (at s)) (places c)))))
   parts_closed vars lists s (con.Reifyimply' p (more_of-Con c none) r) says known zeros shaped =
-      let k = All-front (Known (length s)) (places c) (r ∷ []) known in
-      let k_r = (All-back (Known (length s)) (places c) (r ∷ []) known).0 in
-      let z = All-front (Bit s) (bits c) (r ∷ []) zeros in
+      let k = all_front (Known (length s)) (places c) (r ∷ []) known in
+      let k_r = (all_back (Known (length s)) (places c) (r ∷ []) known).0 in
+      let z = all_front (Bit s) (bits c) (r ∷ []) zeros in
       rw (front_is (value_of (at s)) (places c) (r ∷ []), behind_is (value_of (at s)) (places c) r [])
       (says_iff says
       (imply_parts (has_iff s r (pos 1) k_r) (alone_iff s r (pos 1) k_r) (parts_possible lists s c true k z shaped) (parts_closed vars lists s c true k z shaped))
@@ -299,18 +300,18 @@ mutual
       → SomeSays lists s cs says → OneClosed vars lists cs says (singles s)
   some_closed vars lists s con.End says known zeros shaped some = some
   some_closed vars lists s (con.More' p (more_of-Con c none) q (more_of-Cons cs nothing)) says known zeros shaped (inl here) =
-      let k = All-front (Known (length s)) (places c) (places_of cs) known in
-      let z = All-front (Bit s) (bits c) (bits_of cs) zeros in
+      let k = all_front (Known (length s)) (places c) (places_of cs) known in
+      let z = all_front (Bit s) (bits c) (bits_of cs) zeros in
       inl ((parts_possible lists s c says k z shaped.0).1 here, (parts_closed vars lists s c says k z shaped.0).1 here)
   some_closed vars lists s (con.More' p (more_of-Con c none) q (more_of-Cons cs nothing)) says known zeros shaped (inr later) =
-      inr (some_closed vars lists s cs says (All-back (Known (length s)) (places c) (places_of cs) known) (All-back (Bit s) (bits c) (bits_of cs) zeros) shaped.1 later)
+      inr (some_closed vars lists s cs says (all_back (Known (length s)) (places c) (places_of cs) known) (all_back (Bit s) (bits c) (bits_of cs) zeros) shaped.1 later)
 
   each_closed : (vars : List Variable) (lists : List Tuples) (s : List ℤ) (cs : Cons) (says : Bool) → AllByRecursion (Known (length s)) (places_of cs) → AllByRecursion (Bit s) (bits_of cs) → AreShaped cs
       → EachClosed vars lists cs says (singles s) ↔ EachSays lists s cs says
   each_closed vars lists s con.End says known zeros shaped = (λ h. h, λ h. h)
   each_closed vars lists s (con.More' p (more_of-Con c none) q (more_of-Cons cs nothing)) says known zeros shaped =
-      both_iff (parts_closed vars lists s c says (All-front (Known (length s)) (places c) (places_of cs) known) (All-front (Bit s) (bits c) (bits_of cs) zeros) shaped.0)
-      (each_closed vars lists s cs says (All-back (Known (length s)) (places c) (places_of cs) known) (All-back (Bit s) (bits c) (bits_of cs) zeros) shaped.1)
+      both_iff (parts_closed vars lists s c says (all_front (Known (length s)) (places c) (places_of cs) known) (all_front (Bit s) (bits c) (bits_of cs) zeros) shaped.0)
+      (each_closed vars lists s cs says (all_back (Known (length s)) (places c) (places_of cs) known) (all_back (Bit s) (bits c) (bits_of cs) zeros) shaped.1)
 
 pub possible_tells : (lists : List Tuples) (s : List ℤ) (c : Con) (says : Bool) → AllByRecursion (Known (length s)) (places c) → BitsAreBits (at s) c → IsShaped c → Possible lists c says (singles s) ↔ Says says (Holds lists s c)
 possible_tells lists s c says known zeros shaped = apart_iff is_taken_apart (parts_possible lists s c says known zeros shaped) (leaf_possible lists s c says known zeros shaped)

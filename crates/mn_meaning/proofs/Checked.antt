@@ -1,10 +1,10 @@
 -- A check of all constraints, one by one, each of which has a meaning.
-use Rattle.std.proofs.Common.{◌≡◌, ◌↔◌, ℕ, zero, suc, ◌+◌, ◌<◌, ◌≤◌, ℤ, ◌≤ℤ◌, List, [], ◌∷◌, length, drop, get_or, slice_index_or, pos, sym, subst, arith}
+use Rattle.std.proofs.Common.{◌≡◌, ◌↔◌, ℕ, zero, suc, ◌+◌, ◌<◌, ◌≤◌, ℤ, List, [], ◌∷◌, length, drop, get_or, sym, subst, arith}
 use Rattle.std.proofs.lemmas.Int.{ints}
 use Rattle.std.proofs.lemmas.List.{drop_all, drop_more}
 use Rattle.std.specs.List.{AllByRecursion}
 use Rattle.mn_model.specs.Domain.{IsValue}
-use Rattle.mn_model.specs.Lawful.{HasNearConstants, IsLawfulCon, IsLawfulTerm, IsMeant, IsNear, IsNearTerm, IsShort}
+use Rattle.mn_model.specs.Lawful.{IsLawfulCon, IsLawfulTerm, IsMeant, IsNear, IsNearTerm, IsShort}
 use Rattle.mn_model.specs.Parts.{constants, places, vectors}
 use Rattle.mn_model.specs.declared.constraint.Con.{Con}
 use Rattle.mn_model.specs.declared.constraint.Term.{Term}

@@ -1,13 +1,28 @@
 -- A walk that looks for a value among others, all of which stand in a relation to it: for the greatest, the least.
 use Rattle.std.proofs.Common.{◌≡◌, ◌↔◌, ℤ, List, [], ◌∷◌, ◌⊎◌, ◌||◌, inl, inr, ⊎_elim, Bool, true, false, IsTrue, true≢false, refl, sym, subst}
 use Rattle.std.specs.Bool.{Decides}
-use Rattle.std.specs.List.{AllByRecursion}
+use Rattle.std.specs.List.{AllByRecursion, list_any}
+use Rattle.std.specs.Ordering.{int_eq}
+use Rattle.std.proofs.lemmas.Bool.Decides.{Decides-int_eq}
 use Rattle.mn_model.specs.Domain.{Has}
 
 -- found by now: found before, or here
 pub found_now : {P : Type 0} (found here : Bool) → Decides here P → IsTrue (found || here) ↔ (IsTrue found ⊎ P)
 found_now true here tells = (λ _. inl refl, λ _. refl)
 found_now false here tells = (λ e. inr (tells.0 e), λ either. ⊎_elim (λ never. absurd (true≢false (sym never))) tells.1 either)
+
+-- whether one of the values is k, by a test of each
+found_among : (k : ℤ) (xs : List ℤ) → Decides (list_any (λ b. int_eq b k) xs) (Has xs k)
+found_among k [] = (λ never. absurd (true≢false (sym never)), λ has. absurd has)
+found_among k (b ∷ xs) =
+    let whole = found_now (int_eq b k) (list_any (λ c. int_eq c k) xs) (found_among k xs) in
+    (λ e. ⊎_elim (λ is. inl ((Decides-int_eq b k).0 is)) inr (whole.0 e), λ has. whole.1 (⊎_elim (λ same. inl ((Decides-int_eq b k).1 same)) inr has))
+
+pub contained : (found : Bool) (xs ys : List ℤ) (k b : ℤ) → found ≡ list_any (λ c. int_eq c b) xs → xs ≡ ys → b ≡ k → IsTrue found ↔ Has ys k
+contained found xs ys k b is same value =
+    subst (λ (a : ℤ). IsTrue found ↔ Has ys a) value
+    (subst (λ (zs : List ℤ). IsTrue found ↔ Has zs b) same
+    (subst (λ (t : Bool). IsTrue t ↔ Has xs b) (sym is) (found_among b xs)))
 
 module _ (R : ℤ → ℤ → Type 0) (k b : ℤ) (here rest all : List ℤ) (next : here ≡ b ∷ rest) where
   -- the next one stands in the relation: those behind it decide of all

@@ -1,6 +1,5 @@
 -- The values at the places of a constraint, part by part.
-use Rattle.std.proofs.Common.{◌≡◌, ◌↔◌, ℕ, zero, suc, ◌+◌, ℤ, List, [], ◌∷◌, ◌++◌, length, take, drop, slice_index_or, IsTrue, pos, refl, sym, ap, subst, ◌∙◌, arith}
-use Rattle.std.specs.List.{AllByRecursion}
+use Rattle.std.proofs.Common.{◌≡◌, ◌↔◌, ℕ, suc, ◌+◌, ℤ, List, [], ◌∷◌, ◌++◌, length, refl, sym, ap, subst, ◌∙◌, arith}
 use Rattle.mn_model.specs.declared.constraint.Term.{Term}
 use Rattle.mn_meaning.specs.Meaning.{at, front, behind, last, rest, values_at, value_of}
 
@@ -43,12 +42,3 @@ pub with_rest : (P : List ℤ → List ℤ → Type 0) (f : ℕ → ℤ) (v w : 
 with_rest P f v w {T} holds =
     subst (λ (values : List ℤ). T ↔ P values (rest v (values_at f (v ++ w)))) (sym (front_values f v w))
     (subst (λ (values : List ℤ). T ↔ P (values_at f v) values) (sym (rest_values f v w)) holds)
-
--- what holds of all members of two lists in a row holds of those of each
-pub all_front : {X : Type 0} (P : X → Type 0) (xs ys : List X) → AllByRecursion P (xs ++ ys) → AllByRecursion P xs
-all_front P [] ys all = tt
-all_front P (x ∷ xs) ys all = (all.0, all_front P xs ys all.1)
-
-pub all_back : {X : Type 0} (P : X → Type 0) (xs ys : List X) → AllByRecursion P (xs ++ ys) → AllByRecursion P ys
-all_back P [] ys all = all
-all_back P (x ∷ xs) ys all = all_back P xs ys all.1

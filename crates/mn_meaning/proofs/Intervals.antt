@@ -1,5 +1,5 @@
 -- Intervals, taken from the front of a list of their ends.
-use Rattle.std.proofs.Common.{◌≡◌, ◌↔◌, ◌≤◌, ℤ, pos, ◌≤ℤ◌, List, [], ◌∷◌, inl, inr, ⊎_elim, length, take, drop, get_or, refl, sym, subst, arith}
+use Rattle.std.proofs.Common.{◌↔◌, ◌≤◌, ℤ, pos, ◌≤ℤ◌, List, [], ◌∷◌, inr, ⊎_elim, length, take, drop, get_or, arith}
 use Rattle.mn_meaning.specs.Families.{InIntervals}
 
 -- a isn't in the first interval: those behind it decide of all

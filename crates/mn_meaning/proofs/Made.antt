@@ -1,10 +1,9 @@
 -- Constraints around others, and what they pass on to their parts.
-use Rattle.std.proofs.Common.{◌≡◌, ◌↔◌, ◌+◌, ◌≤◌, ℕ, ℤ, pos, List, [], ◌∷◌, ◌++◌, ◌⊎◌, inl, inr, ⊎_elim, length, Bool, true, false, not, IsTrue, nat_eq, of_z, w64, refl, sym, subst, ◌∙◌, true≢false}
-use Rattle.std.specs.Bool.{Decides}
+use Rattle.std.proofs.Common.{◌≡◌, ◌↔◌, ◌+◌, ◌≤◌, ℕ, ℤ, pos, List, [], ◌∷◌, ◌++◌, ◌⊎◌, inl, inr, ⊎_elim, length, sym, subst, ◌∙◌}
 use Rattle.std.specs.List.{AllByRecursion}
-use Rattle.mn_model.specs.Lawful.{HasNearConstants, HaveNearConstants, IsNear, IsNearTerm}
-use Rattle.mn_model.specs.Negation.{more, negated, reified}
-use Rattle.mn_model.specs.Parts.{places, places_of, constants, constants_of, vectors, vectors_of}
+use Rattle.mn_model.specs.Lawful.{HasNearConstants, HaveNearConstants, IsNearTerm}
+use Rattle.mn_model.specs.Negation.{reified}
+use Rattle.mn_model.specs.Parts.{places, places_of, vectors, vectors_of}
 use Rattle.mn_model.specs.declared.constraint.Con.{Con}
 use Rattle.mn_model.specs.declared.constraint.Cons.{Cons}
 use Rattle.mn_model.specs.declared.constraint.Con.TheBlock.{more_of-Con, end_of-Con, more_of-Cons, end_of-Cons}
@@ -12,29 +11,10 @@ use Rattle.mn_model.specs.declared.constraint.Con.TheVariants as made
 use Rattle.mn_model.specs.declared.constraint.Term.{Term}
 use Rattle.mn_model.specs.declared.declaration.Tuples.{Tuples}
 use Rattle.mn_model.specs.declared.limits.TheConstants.{PLACES}
-use Rattle.mn_meaning.specs.Meaning.{EachHolds, EachMeets, HoldsOver, Meets, SomeHolds, SomeMeet, value_of, values_at}
-use Rattle.mn_meaning.proofs.Fronts.{all_back, all_front, with_behind, with_rest}
-
--- the constraint that holds where r is 1
-abbrev pub implied : Con → Term → Con
-implied c r = made.Reifyimply' tt (more_of-Con c end_of-Con) r
-
--- what code makes of constraints is these
-pub made_reified : (c : Con) (r : Term) → made.Reify c r ≡ reified c r
-unfolding Rattle.mn_model.specs.declared.constraint.Con.TheBlock.shape-the_row-Con-0 Rattle.mn_model.specs.declared.constraint.Con.TheBlock.hidden-the_row-Con-0 denote.Hole.Carrier.hidden
-made_reified c r = refl
-
-pub made_implied : (c : Con) (r : Term) → made.Reifyimply c r ≡ implied c r
-unfolding Rattle.mn_model.specs.declared.constraint.Con.TheBlock.shape-the_row-Con-0 Rattle.mn_model.specs.declared.constraint.Con.TheBlock.hidden-the_row-Con-0 denote.Hole.Carrier.hidden
-made_implied c r = refl
-
-pub made_negated : (c : Con) → made.Negated c ≡ negated c
-unfolding Rattle.mn_model.specs.declared.constraint.Con.TheBlock.shape-the_row-Con-0 Rattle.mn_model.specs.declared.constraint.Con.TheBlock.hidden-the_row-Con-0 denote.Hole.Carrier.hidden
-made_negated c = refl
-
-pub made_more : (c : Con) (others : Cons) → made.More c others ≡ more c others
-unfolding Rattle.mn_model.specs.declared.constraint.Con.TheBlock.shape-the_row-Con-0 Rattle.mn_model.specs.declared.constraint.Con.TheBlock.hidden-the_row-Con-0 Rattle.mn_model.specs.declared.constraint.Con.TheBlock.shape-the_row-Cons-1 Rattle.mn_model.specs.declared.constraint.Con.TheBlock.hidden-the_row-Cons-1 denote.Hole.Carrier.hidden
-made_more c others = refl
+use Rattle.mn_meaning.specs.Meaning.{EachHolds, EachMeets, HoldsOver, Meets, SomeHolds, SomeMeet, value_of}
+use Rattle.mn_model.proofs.Children.{all_back, all_front, implied, made_implied, made_more, made_negated, made_reified}
+use Rattle.mn_model.proofs.Children as children
+use Rattle.mn_meaning.proofs.Fronts.{with_behind, with_rest}
 
 -- its vectors are short
 abbrev pub AreShort : List (List Term) → Type 0
@@ -50,8 +30,7 @@ module _ (con got c : Con) (r : Term) (part : got ≡ c) where
   short_reified is short = subst (λ (d : Con). AreShort (vectors d)) (sym part) (subst (λ (d : Con). AreShort (vectors d)) (is ∙ made_reified c r) short)
 
   pub near_implied : con ≡ made.Reifyimply c r → HasNearConstants con → HasNearConstants got
-  near_implied is near = let whole = subst HasNearConstants (is ∙ made_implied c r) near in
-      subst HasNearConstants (sym part) (record { places = all_front IsNearTerm (places c) (r ∷ []) whole.places; constants = whole.constants })
+  near_implied is near = subst HasNearConstants (sym part) (children.near_implied con c r is near)
 
   pub short_implied : con ≡ made.Reifyimply c r → AreShort (vectors con) → AreShort (vectors got)
   short_implied is short = subst (λ (d : Con). AreShort (vectors d)) (sym part) (subst (λ (d : Con). AreShort (vectors d)) (is ∙ made_implied c r) short)
@@ -65,14 +44,11 @@ module _ (con got c : Con) (r : Term) (part : got ≡ c) where
 
 -- of the first of several constraints, and of the others
 module _ (rest : Cons) (first : Con) (others : Cons) (is : rest ≡ made.More first others) (near : HaveNearConstants rest) where
-  whole : HaveNearConstants (more first others)
-  whole = subst HaveNearConstants (is ∙ made_more first others) near
-
   pub near_first : (got : Con) → got ≡ first → HasNearConstants got
-  near_first got part = subst HasNearConstants (sym part) (record { places = all_front IsNearTerm (places first) (places_of others) whole.places; constants = all_front IsNear (constants first) (constants_of others) whole.constants })
+  near_first got part = subst HasNearConstants (sym part) (children.near_first rest first others is near)
 
   pub near_others : (got : Cons) → got ≡ others → HaveNearConstants got
-  near_others got part = subst HaveNearConstants (sym part) (record { places = all_back IsNearTerm (places first) (places_of others) whole.places; constants = all_back IsNear (constants first) (constants_of others) whole.constants })
+  near_others got part = subst HaveNearConstants (sym part) (children.near_others rest first others is near)
 
 module _ (rest : Cons) (first : Con) (others : Cons) (is : rest ≡ made.More first others) (short : AreShort (vectors_of rest)) where
   all_short : AreShort (vectors first ++ vectors_of others)

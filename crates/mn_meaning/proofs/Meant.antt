@@ -18,7 +18,8 @@ use Rattle.mn_model.specs.declared.declaration.Tuples.{Tuples}
 use Rattle.mn_model.specs.declared.limits.TheConstants.{PLACES}
 use Rattle.mn_meaning.specs.Laws.{IsAssignment, IsZeroOrOne, BitsAreBits}
 use Rattle.mn_meaning.specs.Meaning.{at, value_of}
-use Rattle.mn_meaning.proofs.MemberLemmas.{All-front, All-back, AllByRecursion-append, weakened}
+use Rattle.mn_model.proofs.Children.{all_front, all_back}
+use Rattle.mn_meaning.proofs.MemberLemmas.{AllByRecursion-append, weakened}
 
 -- one more weight for one more place
 one_longer : (ks : List ℤ) (v : List Term) (k : ℤ) (x : Term) → length ks ≡ length v → length (ks ++ k ∷ []) ≡ length (v ++ x ∷ [])
@@ -114,25 +115,25 @@ joined_parts terms others numbers more vs ws one two = record {
 
 first_parts : (domains : List (List ℤ)) (terms others zeros bits : List Term) (numbers more : List ℤ) (vs ws : List (List Term)) → AreLawfulParts domains (terms ++ others) (zeros ++ bits) (numbers ++ more) (vs ++ ws) → AreLawfulParts domains terms zeros numbers vs
 first_parts domains terms others zeros bits numbers more vs ws parts = record {
-  named = All-front (IsLawfulTerm domains) terms others parts.named;
-  bits = All-front (IsBit domains) zeros bits parts.bits;
-  constants = All-front IsValue numbers more parts.constants;
-  short = All-front IsShort vs ws parts.short;
+  named = all_front (IsLawfulTerm domains) terms others parts.named;
+  bits = all_front (IsBit domains) zeros bits parts.bits;
+  constants = all_front IsValue numbers more parts.constants;
+  short = all_front IsShort vs ws parts.short;
 }
 
 other_parts : (domains : List (List ℤ)) (terms others zeros bits : List Term) (numbers more : List ℤ) (vs ws : List (List Term)) → AreLawfulParts domains (terms ++ others) (zeros ++ bits) (numbers ++ more) (vs ++ ws) → AreLawfulParts domains others bits more ws
 other_parts domains terms others zeros bits numbers more vs ws parts = record {
-  named = All-back (IsLawfulTerm domains) terms others parts.named;
-  bits = All-back (IsBit domains) zeros bits parts.bits;
-  constants = All-back IsValue numbers more parts.constants;
-  short = All-back IsShort vs ws parts.short;
+  named = all_back (IsLawfulTerm domains) terms others parts.named;
+  bits = all_back (IsBit domains) zeros bits parts.bits;
+  constants = all_back IsValue numbers more parts.constants;
+  short = all_back IsShort vs ws parts.short;
 }
 
 -- those of a constraint beside a 0/1 term
 inner_parts : (domains : List (List ℤ)) (terms zeros : List Term) (r : Term) (numbers : List ℤ) (vs : List (List Term)) → AreLawfulParts domains (terms ++ r ∷ []) (zeros ++ r ∷ []) numbers vs → AreLawfulParts domains terms zeros numbers vs
 inner_parts domains terms zeros r numbers vs parts = record {
-  named = All-front (IsLawfulTerm domains) terms (r ∷ []) parts.named;
-  bits = All-front (IsBit domains) zeros (r ∷ []) parts.bits;
+  named = all_front (IsLawfulTerm domains) terms (r ∷ []) parts.named;
+  bits = all_front (IsBit domains) zeros (r ∷ []) parts.bits;
   constants = parts.constants;
   short = parts.short;
 }
@@ -143,7 +144,7 @@ changed_parts terms numbers others vs parts near = record { places = parts.place
 
 swapped_parts : (v w : List Term) → AreNearParts (v ++ w) [] (v ∷ w ∷ []) → AreNearParts (w ++ v) [] (w ∷ v ∷ [])
 swapped_parts v w parts = record {
-  places = AllByRecursion-append IsNearTerm w v (All-back IsNearTerm v w parts.places) (All-front IsNearTerm v w parts.places);
+  places = AllByRecursion-append IsNearTerm w v (all_back IsNearTerm v w parts.places) (all_front IsNearTerm v w parts.places);
   constants = tt;
   short = (parts.short.1.0, (parts.short.0, tt));
 }
@@ -184,13 +185,13 @@ mutual
   negation_parts domains (con.Reify' p (more_of-Con c none) r) parts =
       let near = near_parts domains (places c) (bits c) (constants c) (vectors c) (inner_parts domains (places c) (bits c) r (constants c) (vectors c) parts) in
       record {
-        places = AllByRecursion-append IsNearTerm (places c) (other r ∷ []) near.places (near_other domains r (All-back (IsBit domains) (bits c) (r ∷ []) parts.bits).0, tt);
+        places = AllByRecursion-append IsNearTerm (places c) (other r ∷ []) near.places (near_other domains r (all_back (IsBit domains) (bits c) (r ∷ []) parts.bits).0, tt);
         constants = near.constants;
         short = near.short;
       }
   negation_parts domains (con.Reifyimply' p (more_of-Con c none) r) parts =
       joined_parts (r ∷ []) (places (negation c) ++ []) (pos 1 ∷ []) (constants (negation c) ++ []) [] (vectors (negation c) ++ [])
-      (record { places = (near_term domains r (All-back (IsLawfulTerm domains) (places c) (r ∷ []) parts.named).0, tt); constants = ((omega (arith, ints), omega (arith, ints)), tt); short = tt })
+      (record { places = (near_term domains r (all_back (IsLawfulTerm domains) (places c) (r ∷ []) parts.named).0, tt); constants = ((omega (arith, ints), omega (arith, ints)), tt); short = tt })
       (joined_parts (places (negation c)) [] (constants (negation c)) [] (vectors (negation c)) []
       (negation_parts domains c (inner_parts domains (places c) (bits c) r (constants c) (vectors c) parts)) (record { places = tt; constants = tt; short = tt }))
   negation_parts domains (con.Negated' p (more_of-Con c none)) parts = near_parts domains (places c) (bits c) (constants c) (vectors c) parts
@@ -216,8 +217,8 @@ lawful_meant domains lists c lawful = meant_by lists c (near_parts domains (plac
 pub negation_meant : (domains : List (List ℤ)) (lists : List Tuples) (c : Con) → IsLawfulCon domains lists c → IsMeant lists (negation c)
 negation_meant domains lists c lawful = meant_by lists (negation c) (negation_parts domains c (parts_of domains lists c lawful)) (subst (AllByRecursion (SuitsTable lists)) (sym (same_tables c)) lawful.tables)
 
--- a value of a domain with the values 0 and 1 is one of them
-bit_of : (values : List ℤ) (a : ℤ) → AllByRecursion IsZeroOrOne values → Has values a → IsZeroOrOne a
+-- a value of a domain with the values 0 and 1 is one of them, and so is that of a 0/1 term
+pub bit_of : (values : List ℤ) (a : ℤ) → AllByRecursion IsZeroOrOne values → Has values a → IsZeroOrOne a
 bit_of [] a all has = absurd has
 bit_of (b ∷ values) a all (inl same) = subst IsZeroOrOne same all.0
 bit_of (b ∷ values) a all (inr later) = bit_of values a all.1 later
@@ -232,7 +233,7 @@ other_bit : (a : ℤ) → IsZeroOrOne a → IsZeroOrOne (pos 1 -ℤ a)
 other_bit a (inl none) = inr (omega (arith, ints, none))
 other_bit a (inr one) = inl (omega (arith, ints, one))
 
-bit_value : (domains : List (List ℤ)) (s : List ℤ) → IsAssignment domains s → (t : Term) → IsBit domains t → IsZeroOrOne (value_of (at s) t)
+pub bit_value : (domains : List (List ℤ)) (s : List ℤ) → IsAssignment domains s → (t : Term) → IsBit domains t → IsZeroOrOne (value_of (at s) t)
 bit_value domains s assigned (Var v) bit = bit_at domains (number_of v) s bit assigned
 bit_value domains s assigned (Const k) bit = bit
 bit_value domains s assigned (Not v) bit = other_bit (at s (number_of v)) (bit_at domains (number_of v) s bit assigned)

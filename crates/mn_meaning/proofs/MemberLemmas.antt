@@ -25,15 +25,6 @@ pub AllByRecursion-append : {X : Type 0} (P : X → Type 0) (xs ys : List X) →
 AllByRecursion-append P [] ys front back = back
 AllByRecursion-append P (x ∷ xs) ys front back = (front.0, AllByRecursion-append P xs ys front.1 back)
 
--- what holds of all of two lists holds of all of each
-pub All-front : {X : Type 0} (P : X → Type 0) (xs ys : List X) → AllByRecursion P (xs ++ ys) → AllByRecursion P xs
-All-front P [] ys all = tt
-All-front P (x ∷ xs) ys all = (all.0, All-front P xs ys all.1)
-
-pub All-back : {X : Type 0} (P : X → Type 0) (xs ys : List X) → AllByRecursion P (xs ++ ys) → AllByRecursion P ys
-All-back P [] ys all = all
-All-back P (x ∷ xs) ys all = All-back P xs ys all.1
-
 pub HoldsInOrder-append : {X : Type 0} (R : X → X → Type 0) (xs ys : List X) → HoldsInOrder R xs → HoldsInOrder R ys → AllByRecursion (λ x. AllByRecursion (R x) ys) xs → HoldsInOrder R (xs ++ ys)
 HoldsInOrder-append R [] ys front back across = back
 HoldsInOrder-append R (x ∷ xs) ys front back across = (AllByRecursion-append (R x) xs ys front.0 across.0, HoldsInOrder-append R xs ys front.1 back across.1)

@@ -16,7 +16,7 @@ use Rattle.mn_model.specs.declared.declaration.Tuples.{Tuples}
 use Rattle.mn_meaning.specs.Families.{occurrences, sum_of, weighted_sum, IsBelow}
 use Rattle.mn_meaning.specs.Laws.{IsZeroOrOne, BitsAreBits}
 use Rattle.mn_meaning.specs.Meaning.{front, behind, rest, value_of, SomeMeet, EachMeets, HoldsOver, decide_meets}
-use Rattle.mn_meaning.proofs.MemberLemmas.{All-front, All-back}
+use Rattle.mn_model.proofs.Children.{all_front, all_back}
 
 -- the values at the parts of the places
 pub front_is : (f : Term → ℤ) (v w : List Term) → front v (map f (v ++ w)) ≡ map f v
@@ -228,11 +228,11 @@ mutual
   negation_holds lists values (con.WatchedAnd cs) shaped zeros = some_fails lists values cs shaped zeros
   negation_holds lists values (con.Reify' p (more_of-Con c none) r) shaped zeros =
       rw (front_is (value_of values) (places c) (other r ∷ []), behind_is (value_of values) (places c) (other r) [], front_is (value_of values) (places c) (r ∷ []), behind_is (value_of values) (places c) r [])
-      (turned (value_of values r) (value_of values (other r)) (All-back (λ t. IsZeroOrOne (value_of values t)) (bits c) (r ∷ []) zeros).0 (other_is values r) (decide_meets lists c (map (value_of values) (places c))))
+      (turned (value_of values r) (value_of values (other r)) (all_back (λ t. IsZeroOrOne (value_of values t)) (bits c) (r ∷ []) zeros).0 (other_is values r) (decide_meets lists c (map (value_of values) (places c))))
   negation_holds lists values (con.Reifyimply' p (more_of-Con c none) r) shaped zeros =
       rw (front_is (value_of values) (places (negation c)) [], front_is (value_of values) (places c) (r ∷ []), behind_is (value_of values) (places c) r [])
       (implied (decide_int (value_of values r) (pos 1)) (decide_meets lists c (map (value_of values) (places c)))
-      (negation_holds lists values c shaped (All-front (λ t. IsZeroOrOne (value_of values t)) (bits c) (r ∷ []) zeros)))
+      (negation_holds lists values c shaped (all_front (λ t. IsZeroOrOne (value_of values t)) (bits c) (r ∷ []) zeros)))
   negation_holds lists values (con.Negated' p (more_of-Con c none)) shaped zeros = not_not (decide_meets lists c (map (value_of values) (places c)))
   negation_holds lists values c shaped zeros = (λ h. h, λ h. h)
 
@@ -241,13 +241,13 @@ mutual
   none_holds lists values con.End shaped zeros = (λ all never. never, λ not. tt)
   none_holds lists values (con.More' p (more_of-Con c none) q (more_of-Cons cs nothing)) shaped zeros =
       rw (front_is (value_of values) (places (negation c)) (places_of (negations cs)), rest_is (value_of values) (places (negation c)) (places_of (negations cs)), front_is (value_of values) (places c) (places_of cs), rest_is (value_of values) (places c) (places_of cs))
-      (neither (negation_holds lists values c shaped.0 (All-front (λ t. IsZeroOrOne (value_of values t)) (bits c) (bits_of cs) zeros))
-      (none_holds lists values cs shaped.1 (All-back (λ t. IsZeroOrOne (value_of values t)) (bits c) (bits_of cs) zeros)))
+      (neither (negation_holds lists values c shaped.0 (all_front (λ t. IsZeroOrOne (value_of values t)) (bits c) (bits_of cs) zeros))
+      (none_holds lists values cs shaped.1 (all_back (λ t. IsZeroOrOne (value_of values t)) (bits c) (bits_of cs) zeros)))
 
   some_fails : (lists : List Tuples) (values : ℕ → ℤ) (cs : Cons) → AreShaped cs → AllByRecursion (λ t. IsZeroOrOne (value_of values t)) (bits_of cs)
       → SomeMeet lists (negations cs) (map (value_of values) (places_of (negations cs))) ↔ (EachMeets lists cs (map (value_of values) (places_of cs)) → ⊥)
   some_fails lists values con.End shaped zeros = (λ never all. never, λ not. not tt)
   some_fails lists values (con.More' p (more_of-Con c none) q (more_of-Cons cs nothing)) shaped zeros =
       rw (front_is (value_of values) (places (negation c)) (places_of (negations cs)), rest_is (value_of values) (places (negation c)) (places_of (negations cs)), front_is (value_of values) (places c) (places_of cs), rest_is (value_of values) (places c) (places_of cs))
-      (not_both (decide_meets lists c (map (value_of values) (places c))) (negation_holds lists values c shaped.0 (All-front (λ t. IsZeroOrOne (value_of values t)) (bits c) (bits_of cs) zeros))
-      (some_fails lists values cs shaped.1 (All-back (λ t. IsZeroOrOne (value_of values t)) (bits c) (bits_of cs) zeros)))
+      (not_both (decide_meets lists c (map (value_of values) (places c))) (negation_holds lists values c shaped.0 (all_front (λ t. IsZeroOrOne (value_of values t)) (bits c) (bits_of cs) zeros))
+      (some_fails lists values cs shaped.1 (all_back (λ t. IsZeroOrOne (value_of values t)) (bits c) (bits_of cs) zeros)))

@@ -1,11 +1,10 @@
 -- A walk over the places of a vector: what the values that are left are, and what they count.
-use Rattle.std.proofs.Common.{◌≡◌, ℕ, suc, ◌+◌, ◌<◌, ◌≤◌, ℤ, pos, List, [], ◌∷◌, ◌⊎◌, inl, inr, ⊎_elim, length, drop, get_or, map, Bool, true, false, if◌then◌else◌, refl, ap, sym, subst, ◌∙◌, of_z, to_z, nat_eq, arith}
+use Rattle.std.proofs.Common.{◌≡◌, ℕ, ◌+◌, ◌<◌, ◌≤◌, ℤ, List, [], ◌∷◌, ◌⊎◌, inl, inr, ⊎_elim, length, drop, get_or, Bool, true, false, if◌then◌else◌, refl, ap, sym, ◌∙◌, of_z, to_z, nat_eq}
 use Rattle.std.proofs.lemmas.List.{drop_more, drop_all}
 use Rattle.std.proofs.lemmas.Bool.Decides.{Decides-eqb, Decides-int_eq}
 use Rattle.std.proofs.lemmas.Int.{to_z-of_z}
 use Rattle.std.specs.Bool.{Decides}
 use Rattle.std.specs.Int.RustNames.{FitsSigned}
-use Rattle.std.proofs.lemmas.Bool.{false≢true}
 use Rattle.std.specs.Ordering.{int_eq}
 use mir.Syntax.{Width}
 use Rattle.mn_model.specs.declared.constraint.Term.{Term}

@@ -1,11 +1,9 @@
 -- Values that are there again behind their place.
-use Rattle.std.proofs.Common.{◌≡◌, ◌≢◌, ◌↔◌, ℕ, suc, ◌+◌, ◌-◌, ℤ, pos, List, [], ◌∷◌, inl, inr, ⊎_elim, length, take, drop, Bool, true, false, IsTrue, if◌then◌else◌, ◌≤◌, refl, sym, ap, subst, ◌∙◌, arith, nat_lt}
+use Rattle.std.proofs.Common.{◌≡◌, ◌≢◌, ◌↔◌, ℕ, ◌+◌, ◌-◌, ℤ, List, [], ◌∷◌, inl, inr, ⊎_elim, length, take, drop, Bool, true, false, IsTrue, if◌then◌else◌, ◌≤◌, refl, sym, ap, subst, ◌∙◌, arith, nat_lt}
 use Rattle.std.proofs.lemmas.Bool.Decides.{nat_tests}
-use Rattle.std.proofs.lemmas.Int.{ints}
 use Rattle.std.proofs.lemmas.List.{take_rest}
 use Rattle.std.specs.List.{AllByRecursion}
 use Rattle.std.specs.Ordering.{int_eq}
-use Rattle.std.specs.Prelude.{int_lt}
 use Rattle.mn_model.specs.Domain.{Has}
 use Rattle.mn_model.specs.declared.constraint.Term.{Term}
 use Rattle.mn_meaning.specs.Families.{occurrences, distinct_count, AllDiffer}

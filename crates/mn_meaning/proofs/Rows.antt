@@ -1,5 +1,5 @@
 -- Rows of a table, taken from the front of its cells.
-use Rattle.std.proofs.Common.{◌≡◌, ◌↔◌, ℕ, zero, suc, ◌+◌, ◌-◌, ◌/◌, ◌<◌, ◌≤◌, ℤ, List, [], ◌∷◌, inl, inr, ⊎_elim, length, take, drop, refl, sym, ap, subst, ◌∙◌, add-one, Bool, IsTrue, length-drop}
+use Rattle.std.proofs.Common.{◌≡◌, ◌↔◌, ℕ, suc, ◌-◌, ◌/◌, ◌<◌, ◌≤◌, ℤ, List, [], ◌∷◌, inl, inr, ⊎_elim, length, take, drop, sym, ap, subst, ◌∙◌, add-one, Bool, IsTrue, length-drop}
 use Rattle.std.proofs.Math.Nat.{div-eq-sub-div, div-eq_of_lt}
 use Rattle.mn_model.specs.Members.{HasMember}
 use Rattle.mn_meaning.specs.Families.{cut, rows_of}

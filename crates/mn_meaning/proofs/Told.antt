@@ -1,5 +1,5 @@
 -- What tests of numbers and of answers tell.
-use Rattle.std.proofs.Common.{◌≡◌, ◌↔◌, ◌<◌, ℕ, ℤ, pos, ◌≤ℤ◌, int_le, to_z, of_z, nat_eq, w64, Bool, true, false, not, IsTrue, refl, sym, ap, subst, true≢false, ◌∙◌, arith}
+use Rattle.std.proofs.Common.{◌≡◌, ◌↔◌, ℕ, ℤ, pos, ◌≤ℤ◌, int_le, to_z, of_z, nat_eq, w64, Bool, true, false, not, IsTrue, refl, sym, ap, subst, true≢false, ◌∙◌, arith}
 use Rattle.std.proofs.lemmas.Bool.Decides.{Decides-eqb}
 use Rattle.std.proofs.lemmas.Int.{ints, to_z-of_z}
 use Rattle.std.specs.Bool.{Decides}

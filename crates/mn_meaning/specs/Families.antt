@@ -1,5 +1,5 @@
 -- What is common to the meanings of many constraints, of lists of values.
-use Rattle.std.specs.Prelude.{◌≡◌, ◌≢◌, ℕ, zero, suc, ◌+◌, ℤ, pos, negsuc, neg_ℤ, ◌+ℤ◌, ◌*ℤ◌, ◌<ℤ◌, ◌≤ℤ◌, ◌⊎◌, if◌then◌else◌, List, [], ◌∷◌, take, drop, ◌/◌, refl, ◌↔◌, length, slice_get, Option, Some, None}
+use Rattle.std.specs.Prelude.{◌≡◌, ◌≢◌, ℕ, zero, suc, ◌+◌, ℤ, pos, negsuc, neg_ℤ, ◌+ℤ◌, ◌*ℤ◌, ◌<ℤ◌, ◌≤ℤ◌, ◌⊎◌, if◌then◌else◌, Bool, true, false, List, [], ◌∷◌, take, drop, ◌/◌, refl, ◌↔◌, length, slice_get, Option, Some, None}
 use Rattle.std.specs.Int.{int_div_euclid}
 use Rattle.std.specs.List.{AllByRecursion}
 use Rattle.std.specs.Ordering.{int_eq}
@@ -26,6 +26,15 @@ IsGreatest values a = Has values a × AllByRecursion (λ b. b ≤ℤ a) values
 
 abbrev pub IsLeast : List ℤ → ℤ → Type 0
 IsLeast values a = Has values a × AllByRecursion (λ b. a ≤ℤ b) values
+
+-- b is at most a, or else at least
+abbrev pub IsWithin : Bool → ℤ → ℤ → Type 0
+IsWithin true a b = b ≤ℤ a
+IsWithin false a b = a ≤ℤ b
+
+-- a is the greatest of the values, or else the least
+abbrev pub IsExtreme : Bool → List ℤ → ℤ → Type 0
+IsExtreme greatest values a = Has values a × AllByRecursion (IsWithin greatest a) values
 
 -- how many of the values are a
 abbrev pub occurrences : ℤ → List ℤ → ℕ

@@ -1,9 +1,9 @@
 -- What a constraint means: of the values at its places, and under an assignment.
-use Rattle.std.specs.Prelude.{◌≡◌, ◌≢◌, ◌↔◌, ℕ, ◌+◌, ℤ, pos, neg_ℤ, ◌-ℤ◌, ◌+ℤ◌, ◌*ℤ◌, ◌<ℤ◌, ◌≤ℤ◌, ◌⊎◌, List, [], ◌∷◌, length, take, drop, map, slice_get, slice_index_or, Option, Some, None}
+use Rattle.std.specs.Prelude.{◌≡◌, ◌≢◌, ◌↔◌, ℕ, ◌+◌, ℤ, pos, neg_ℤ, ◌-ℤ◌, ◌+ℤ◌, ◌*ℤ◌, ◌<ℤ◌, ◌≤ℤ◌, ◌⊎◌, List, [], length, take, drop, map, slice_get, slice_index_or, Option, Some, None}
 use Rattle.std.proofs.Common.{inl, nat_abs}
 use Rattle.std.specs.List.{AllByRecursion}
 use Rattle.mn_meaning.specs.Families.{sum_of, weighted_sum, IsGreatest, IsLeast, occurrences, agreeing, differing, distinct_count, IsEntry, IsBelow, AllDiffer, InIntervals, quotient, rows_of, decide_has, decide_greatest, decide_least, decide_entry, decide_lexically, decide_differ, decide_intervals, decide_same, decide_member, decide_exactly, decide_implies}
-use Rattle.mn_model.specs.Decided.{Decided, decide_int, decide_nat, decide_at_most, decide_below, decide_never, decide_not, decide_both, decide_either, decide_all}
+use Rattle.mn_model.specs.Decided.{Decided, decide_int, decide_at_most, decide_below, decide_never, decide_not, decide_both, decide_either, decide_all}
 use Rattle.mn_model.specs.Domain.{Has}
 use Rattle.mn_model.specs.Members.{HasMember}
 use Rattle.mn_model.specs.Parts.{places, places_of}

@@ -1,20 +1,27 @@
 ghost use Rattle.std.specs.Prelude.{◌≡◌, ◌↔◌, ◌⊎◌, ℕ, IsTrue};
 ghost use Rattle.mn_model.specs.Domain.{IsValue};
-ghost use Rattle.mn_meaning.specs.Families.{IsGreatest, IsLeast, IsEntry, IsBelow};
+ghost use Rattle.mn_meaning.specs.Families.{IsGreatest, IsLeast, IsExtreme, IsWithin, IsEntry, IsBelow};
 ghost use Rattle.mn_meaning.specs.Meaning.{values_at};
 
 use crate::values::{Values, value_at};
 use mn_model::Terms;
 
-/// Whether `a` is the greatest of the values.
-pub fn is_greatest<V: Values>(v: &Terms, a: i64, s: &V) -> bool
+/// Whether `b` is at most `a` where `a` is to be the greatest, and else at least `a`.
+fn is_within(greatest: bool, a: i64, b: i64) -> bool
+    ensures { IsTrue result ↔ IsWithin greatest a b }
+{
+    if greatest { b <= a } else { a <= b }
+}
+
+/// Whether `a` is the greatest of the values where that is asked, and else the least.
+fn is_extreme<V: Values>(greatest: bool, v: &Terms, a: i64, s: &V) -> bool
     requires valued { (n : ℕ) → IsValue (V.values s.now n) }
-    ensures { IsTrue result ↔ IsGreatest (values_at (V.values s.now) v.now) a }
+    ensures { IsTrue result ↔ IsExtreme greatest (values_at (V.values s.now) v.now) a }
 {
     let mut found = false;
     for t in v.as_slice() {
         let b = value_at(*t, s);
-        if b > a {
+        if !is_within(greatest, a, b) {
             return false;
         }
         found |= b == a;
@@ -22,20 +29,20 @@ pub fn is_greatest<V: Values>(v: &Terms, a: i64, s: &V) -> bool
     found
 }
 
+/// Whether `a` is the greatest of the values.
+pub fn is_greatest<V: Values>(v: &Terms, a: i64, s: &V) -> bool
+    requires valued { (n : ℕ) → IsValue (V.values s.now n) }
+    ensures { IsTrue result ↔ IsGreatest (values_at (V.values s.now) v.now) a }
+{
+    is_extreme(true, v, a, s)
+}
+
 /// Whether `a` is the least of the values.
 pub fn is_least<V: Values>(v: &Terms, a: i64, s: &V) -> bool
     requires valued { (n : ℕ) → IsValue (V.values s.now n) }
     ensures { IsTrue result ↔ IsLeast (values_at (V.values s.now) v.now) a }
 {
-    let mut found = false;
-    for t in v.as_slice() {
-        let b = value_at(*t, s);
-        if b < a {
-            return false;
-        }
-        found |= b == a;
-    }
-    found
+    is_extreme(false, v, a, s)
 }
 
 /// Whether `a` is the value at the index, counted from 0.

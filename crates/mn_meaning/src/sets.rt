@@ -11,12 +11,7 @@ use mn_model::{Ints, Tab, Term, Terms, Tuples};
 pub fn is_in(ks: &Ints, a: i64) -> bool
     ensures { IsTrue result ↔ Has ks.now a }
 {
-    for k in ks.as_slice() {
-        if *k == a {
-            return true;
-        }
-    }
-    false
+    ks.as_slice().contains(&a)
 }
 
 /// Whether `a` is neither below `lo` nor above `hi`.

@@ -1,5 +1,5 @@
 -- Children of a nested form, made of a list and taken apart.
-use Rattle.std.proofs.Common.{◌≡◌, ℕ, pos, ◌+◌, ◌<◌, ◌≤◌, List, [], ◌∷◌, ◌++◌, refl, ap, subst, ◌∙◌, arith}
+use Rattle.std.proofs.Common.{◌≡◌, pos, ◌+◌, ◌<◌, ◌≤◌, List, [], ◌∷◌, ◌++◌, refl, ap, subst, ◌∙◌, arith}
 use Rattle.std.specs.List.{AllByRecursion}
 use Rattle.mn_model.specs.Lawful.{HasNearConstants, HaveNearConstants, IsNear, IsNearTerm}
 use Rattle.mn_model.specs.Parts.{places, places_of, constants, constants_of, cell_count, cell_count_of}

@@ -1,11 +1,11 @@
 -- What the parts of an instance keep when it grows.
-use Rattle.std.proofs.Common.{◌≡◌, ℕ, ◌+◌, ◌<◌, ◌≤◌, List, [], ◌∷◌, ◌++◌, length, Option, None, Some, refl, ap, sym, subst, ◌∙◌, arith, String, string_bytes}
-use Rattle.std.specs.List.{AllByRecursion, AllZip}
+use Rattle.std.proofs.Common.{◌≡◌, ℕ, ◌+◌, ◌<◌, ◌≤◌, List, [], ◌∷◌, ◌++◌, length, Option, None, refl, ap, sym, subst, ◌∙◌, arith, String, string_bytes}
+use Rattle.std.specs.List.{AllZip}
 use Rattle.std.specs.Map.{lookup}
 use Rattle.std.specs.Str.{bytes_eq}
 use Rattle.mn_model.proofs.Found.{unfound, nothing_found}
 use Rattle.mn_model.proofs.Kept.{IsLawful-declare, IsLawful-alias, IsLawful-tuples, IsLawful-add, IsLawful-search, declared_in-push, declared_in-past, aliased_in-push, aliased_in-past, named-push, total-push}
-use Rattle.mn_model.specs.Index.{IsKept, entries_read, declared_in, aliased_in, names_from, owners_from}
+use Rattle.mn_model.specs.Index.{IsKept, entries_read, declared_in, aliased_in, owners_from}
 use Rattle.mn_model.specs.Lawful.{IsLawfulAlias, IsLawfulCon, IsLawfulDecl, IsLawfulGoal, IsLawfulOrder, IsLawfulPrint, IsLawfulTuples}
 use Rattle.mn_model.specs.Parts.{cell_count}
 use Rattle.mn_model.specs.Problem.{Problem, aliased_as, cells_of, declared_as, domains_of, listed_as, size_of_dims, variable_count}

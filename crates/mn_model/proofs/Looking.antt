@@ -1,12 +1,12 @@
 -- What the index of names answers.
-use Rattle.std.proofs.Common.{◌≡◌, ℕ, ℤ, zero, suc, ◌+◌, ◌<◌, ◌≤◌, Bool, true, false, cond, List, [], ◌∷◌, length, slice_get, Option, Some, None, refl, ap, sym, subst, ◌∙◌, arith, String, string_bytes}
+use Rattle.std.proofs.Common.{◌≡◌, ℕ, ℤ, zero, suc, ◌<◌, ◌≤◌, Bool, true, false, cond, List, [], ◌∷◌, length, slice_get, Option, Some, None, refl, ap, sym, subst, ◌∙◌, arith, String, string_bytes}
 use Rattle.std.proofs.lemmas.Slice.Eq.{bytes_eq-Decides}
 use Rattle.std.specs.List.{AllByRecursion}
 use Rattle.std.specs.Map.{lookup}
 use Rattle.std.specs.Option.{IfSome, option_and_then}
 use Rattle.std.specs.Str.{bytes_eq}
 use Rattle.mn_model.proofs.Found.{lookup-entries_read, declared_found, aliased_found, nothing_declared, nothing_aliased, found_at, uncalled}
-use Rattle.mn_model.specs.Index.{IsKept, entries_read, declared_in, aliased_in}
+use Rattle.mn_model.specs.Index.{IsKept, entries_read}
 use Rattle.mn_model.specs.Lawful.{IsKnown}
 use Rattle.mn_model.specs.Problem.{Problem, aliased_as, declared_as, listed_as, offset_from, variable_through}
 use Rattle.mn_model.specs.Variable.{number_of}

@@ -1,5 +1,5 @@
 -- The negation of a constraint.
-use Rattle.std.specs.Prelude.{ℕ, ℤ, pos, negsuc, neg_ℤ, ◌-ℤ◌, ◌+ℤ◌, List, [], ◌∷◌, ◌++◌, length, replicate}
+use Rattle.std.specs.Prelude.{ℤ, pos, negsuc, neg_ℤ, ◌-ℤ◌, ◌+ℤ◌, List, [], ◌∷◌, ◌++◌, length, replicate}
 use Rattle.mn_model.specs.declared.constraint.Con.{Con}
 use Rattle.mn_model.specs.declared.constraint.Cons.{Cons}
 use Rattle.mn_model.specs.declared.constraint.Con.TheVariants as con

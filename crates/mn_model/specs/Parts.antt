@@ -1,5 +1,5 @@
 -- What a constraint is made of, the constraints nested in it included.
-use Rattle.std.specs.Prelude.{◌≡◌, ℕ, zero, suc, ◌+◌, ◌*◌, max, ℤ, List, [], ◌∷◌, ◌++◌, length}
+use Rattle.std.specs.Prelude.{◌≡◌, ℕ, suc, ◌+◌, max, ℤ, List, [], ◌∷◌, ◌++◌, length}
 use Rattle.mn_model.specs.declared.constraint.Con.{Con}
 use Rattle.mn_model.specs.declared.constraint.Cons.{Cons}
 use Rattle.mn_model.specs.declared.constraint.Con.TheVariants as con

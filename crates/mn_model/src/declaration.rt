@@ -3,9 +3,11 @@ use super::{Dims, Domain, Kind, Shared, Text, VarId, VarIds};
 /// A declaration of a variable or of a matrix of variables.
 #[derive(Debug, Drop)]
 pub struct Decl {
+    /// Its name, which no other declaration and no alias has.
     pub name: Text,
     /// The dimensions, the outermost first. None at all for a single variable.
     pub dims: Dims,
+    /// How the sets of values of its variables may shrink.
     pub kind: Kind,
     /// The values of each of its variables.
     pub domain: Domain,
@@ -16,6 +18,7 @@ pub struct Decl {
 /// A further name of a variable, or of a matrix of variables that are declared elsewhere.
 #[derive(Debug, Drop)]
 pub struct Alias {
+    /// Its name, which no declaration and no other alias has.
     pub name: Text,
     /// The dimensions, the outermost first. None at all for a single variable.
     pub dims: Dims,
@@ -26,9 +29,10 @@ pub struct Alias {
 /// A tuple list.
 #[derive(Debug, Drop)]
 pub struct Tuples {
+    /// Its name, which no other tuple list has. A variable may have it too.
     pub name: Text,
-    /// The length of each tuple.
+    /// How many numbers each tuple has: at least 1.
     pub arity: u64,
-    /// One tuple after another.
+    /// The numbers of one tuple after another.
     pub cells: Shared,
 }

@@ -1,4 +1,4 @@
-ghost use Rattle.std.specs.Prelude.{◌≡◌, ◌≤◌, ◌<◌, IfSome};
+ghost use Rattle.std.specs.Prelude.{◌≡◌, ◌≤◌, ◌<◌, ◌^◌, IfSome};
 ghost use Rattle.std.specs.List.{AllByRecursion};
 ghost use Rattle.mn_model.specs.Problem.{offset_from, size_of_dims};
 
@@ -17,11 +17,11 @@ pub fn size_of(dims: &Dims) -> usize
     size
 }
 
-/// The place of an entry in a matrix of these dimensions, which has at most so many places, the last index running
-/// fastest.
-pub fn offset_of(dims: &[u32], subs: &[u32], _most: usize) -> Option<usize>
+/// The place of an entry in a matrix of these dimensions, counted from 0, the last index running fastest. None where
+/// there are more or fewer indices than dimensions, or where an index is not below its dimension.
+pub fn offset_of(dims: &[u32], subs: &[u32]) -> Option<usize>
     requires shaped { AllByRecursion (λ dim. 1 ≤ dim) dims.now }
-    requires few { size_of_dims dims.now ≤ _most }
+    requires few { size_of_dims dims.now < 2 ^ 64 }
     ensures place { result ≡ offset_from 0 dims.now subs.now }
     ensures within { IfSome result (λ offset. offset < size_of_dims dims.now) }
 {

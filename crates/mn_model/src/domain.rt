@@ -11,7 +11,7 @@ use std::marker::Model;
 pub struct Domain {
     lo: i64,
     hi: i64,
-    /// The values that were written one by one. Empty for a stretch.
+    /// The values that were written one by one, ascending. Empty for a stretch.
     listed: Ints,
 }
 

@@ -1,4 +1,4 @@
-ghost use Rattle.std.specs.Prelude.{◌≡◌, ◌+◌, ◌<◌, ◌≤◌, ◌≤ℤ◌, pos, [], ◌∷◌, ◌++◌, length, slice_get, None, Some, IfOk, IfSome, OnOk, OnErr};
+ghost use Rattle.std.specs.Prelude.{◌≡◌, ◌+◌, ◌<◌, ◌≤◌, [], ◌∷◌, ◌++◌, length, slice_get, None, Some, IfOk, IfSome, OnOk, OnErr};
 ghost use Rattle.std.specs.List.{AllByRecursion};
 ghost use Rattle.mn_model.specs.Name.{IsName};
 ghost use Rattle.mn_model.specs.Problem.{size_of_dims, variable_in, variable_through};
@@ -63,8 +63,7 @@ impl Model for Instance {
 impl Instance {
     ghost use Rattle.std.specs.Option.{option_map, option_copied, option_and_then};
     ghost use Rattle.std.specs.List.{AllByRecursion};
-    ghost use Rattle.mn_model.specs.Domain.{IsValue};
-    ghost use Rattle.mn_model.specs.Lawful.{IsLawful, IsLawfulAlias, IsLawfulCon, IsLawfulDecl, IsLawfulGoal, IsLawfulOrder, IsLawfulPrint, IsLawfulTuples, IsKnown, MakeTuples, SuitsKind};
+    ghost use Rattle.mn_model.specs.Lawful.{IsLawful, IsLawfulAlias, IsLawfulCon, IsLawfulDecl, IsLawfulOrder, IsLawfulPrint, IsLawfulTuples, IsKnown, SuitsKind};
     ghost use Rattle.mn_model.specs.Parts.{cell_count};
     ghost use Rattle.mn_model.specs.Problem.{Problem, aliased_as, cells_of, declared_as, domains_of, listed_as, nothing, size_of_dims, variable_count, variable_named, variables_of};
     ghost use Rattle.mn_model.specs.Variable.{number_of};
@@ -380,7 +379,7 @@ fn declared_variable(decl: &Decl, subs: &[u32]) -> Option<VarId>
     ensures place { result ≡ variable_in (Some decl.now) subs.now }
     ensures within { IfSome result (λ v. number_of v < number_of decl.now.first + size_of_dims decl.now.dims) }
 {
-    let offset = offset_of(decl.dims.as_slice(), subs, VARIABLES as usize)?;
+    let offset = offset_of(decl.dims.as_slice(), subs)?;
     Some(VarId::new(decl.first.number() + offset as u32))
 }
 
@@ -391,6 +390,6 @@ fn aliased_variable(alias: &Alias, subs: &[u32]) -> Option<VarId>
     ensures place { result ≡ variable_through (Some alias.now) subs.now }
 {
     let vars = alias.vars.as_slice();
-    let offset = offset_of(alias.dims.as_slice(), subs, vars.len())?;
+    let offset = offset_of(alias.dims.as_slice(), subs)?;
     Some(vars[offset])
 }

@@ -18,7 +18,7 @@ pub enum Refusal {
     Shape(u64),
     /// A domain without a value.
     EmptyDomain(u64),
-    /// A limit of the language is passed.
+    /// This limit of the language is passed.
     Limit(Which, u64),
     /// A word that this program doesn't know where it has words of its own.
     Unsupported(u64),
@@ -29,12 +29,19 @@ pub enum Refusal {
 /// The limits that a text can pass.
 #[derive(Clone, Copy, Debug, PartialEq, Eq)]
 pub enum Which {
+    /// `TEXT_BYTES`: the bytes of the text.
     Text,
+    /// `VARIABLES`: the variables.
     Variables,
+    /// `CONSTRAINTS`: the constraints, without those that are nested in others.
     Constraints,
+    /// `CELLS`: the cells of all tuples together.
     Cells,
+    /// `NESTING`: the forms that stand inside one another.
     Nesting,
+    /// `SPAN`: the values of one domain.
     Span,
+    /// `PLACES`: the places of one vector, of VARORDER or of one row of PRINT.
     Vector,
 }
 

@@ -4,11 +4,14 @@ ghost use Rattle.mn_order.specs.Better.{better_of};
 
 use crate::choice::Choice;
 
-/// A place whose set has more than one value: how many it has now, and how many were declared.
+/// A place whose set has more than one value.
 #[derive(Clone, Copy, Debug, PartialEq, Eq)]
 pub struct Candidate {
+    /// The place in the lists of sizes, counted from 0.
     pub place: usize,
+    /// How many values its set has now.
     pub size: u64,
+    /// How many values were declared.
     pub whole: u64,
 }
 

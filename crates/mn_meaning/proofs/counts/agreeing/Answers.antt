@@ -2,7 +2,6 @@ use Rattle.std.proofs.Common.{◌≡◌, ◌≢◌, length, of_z, ap, ◌∙◌,
 use Rattle.std.proofs.lemmas.Int.{ints}
 use Rattle.std.proofs.lemmas.Slice.Zip.{either_empty_from_Zip}
 use Rattle.std.specs.Int.RustNames.{FitsSigned}
-use Rattle.mn_meaning.specs.Meaning.{values_at, value_of}
 use Rattle.mn_meaning.proofs.Places.{value_next, agreeing-same, agreeing-other, agreeing-end, values_end}
 use Rattle.mn_meaning.proofs.counts.agreeing.Goals as goal
 

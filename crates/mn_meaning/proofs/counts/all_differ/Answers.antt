@@ -1,4 +1,4 @@
-use Rattle.std.proofs.Common.{◌≡◌, ◌+◌, List, refl, sym, subst, ◌∙◌, true≢false, w64, rules, arith}
+use Rattle.std.proofs.Common.{◌+◌, List, refl, sym, subst, ◌∙◌, true≢false, w64, rules}
 use Rattle.std.proofs.lemmas.Int.{to_z-of_z}
 use Rattle.std.specs.Int.RustNames.{FitsSigned}
 use Rattle.mn_model.specs.declared.constraint.Term.{Term}

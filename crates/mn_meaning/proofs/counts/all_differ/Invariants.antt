@@ -1,4 +1,4 @@
-use Rattle.std.proofs.Common.{◌≡◌, ◌↔◌, length, drop}
+use Rattle.std.proofs.Common.{◌↔◌, drop}
 use Rattle.mn_meaning.specs.Families.{AllDiffer}
 use Rattle.mn_meaning.specs.Meaning.{values_at}
 use Rattle.mn_meaning.proofs.counts.all_differ.Given as goal

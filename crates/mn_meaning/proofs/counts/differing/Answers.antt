@@ -1,4 +1,4 @@
-use Rattle.std.proofs.Common.{◌≡◌, length, of_z, ap, ◌∙◌, arith, w64, rules}
+use Rattle.std.proofs.Common.{◌≡◌, length, of_z, ap, ◌∙◌, arith, w64}
 use Rattle.std.proofs.lemmas.Int.{ints}
 use Rattle.std.proofs.lemmas.Slice.Zip.{either_empty_from_Zip}
 use Rattle.mn_meaning.proofs.Places.{value_next, differing-same, differing-other, differing-end, both_end}

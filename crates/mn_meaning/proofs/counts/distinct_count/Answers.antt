@@ -1,4 +1,4 @@
-use Rattle.std.proofs.Common.{◌≡◌, ◌+◌, refl, sym, ◌∙◌, true≢false, w64, rules, arith}
+use Rattle.std.proofs.Common.{◌+◌, refl, sym, ◌∙◌, true≢false, w64, rules, arith}
 use Rattle.std.proofs.lemmas.Int.{ints, to_z-of_z}
 use Rattle.std.specs.Int.RustNames.{FitsSigned}
 use Rattle.mn_meaning.proofs.Places.{at_next}

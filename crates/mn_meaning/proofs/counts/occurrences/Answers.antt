@@ -1,6 +1,5 @@
-use Rattle.std.proofs.Common.{◌≡◌, ◌+◌, ◌<◌, pos, ◌∷◌, drop, length, w64, ◌≢◌, sym, ◌∙◌, arith}
+use Rattle.std.proofs.Common.{◌≡◌, w64, ◌≢◌, sym, ◌∙◌, arith}
 use Rattle.std.proofs.lemmas.Int.{ints, to_z-of_z}
-use Rattle.mn_meaning.specs.Meaning.{values_at, value_of}
 use Rattle.mn_meaning.proofs.Places.{at_next, occurrences-same, occurrences-other}
 use Rattle.mn_meaning.proofs.counts.occurrences.Goals as goal
 use Rattle.mn_meaning.proofs.counts.occurrences.Goals.{then-value_at-k, else-value_at-k}

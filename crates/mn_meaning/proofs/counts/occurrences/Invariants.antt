@@ -1,4 +1,4 @@
-use Rattle.std.proofs.Common.{◌≡◌, ◌+◌, ◌≤◌, pos, ◌+ℤ◌, ◌≤ℤ◌, drop}
+use Rattle.std.proofs.Common.{◌≡◌, pos, ◌+ℤ◌, ◌≤ℤ◌, drop}
 use Rattle.mn_meaning.specs.Families.{occurrences}
 use Rattle.mn_meaning.specs.Meaning.{values_at}
 use Rattle.mn_meaning.proofs.counts.occurrences.Given as goal

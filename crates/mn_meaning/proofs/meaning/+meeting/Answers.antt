@@ -1,4 +1,4 @@
-use Rattle.std.proofs.Common.{◌≡◌, ◌≢◌, ◌↔◌, ℤ, pos, ◌-ℤ◌, ◌*ℤ◌, ◌≤ℤ◌, to_z, of_z, not, IsTrue, refl, sym, subst, true≢false, ◌∙◌, arith, rules, tests}
+use Rattle.std.proofs.Common.{◌≡◌, ◌≢◌, ◌↔◌, pos, ◌-ℤ◌, ◌*ℤ◌, ◌≤ℤ◌, to_z, of_z, not, IsTrue, refl, sym, subst, true≢false, ◌∙◌, arith, rules, tests}
 use Rattle.std.proofs.lemmas.Grind.{common_steps}
 use Rattle.mn_model.specs.declared.constraint.Con.TheFolds.{the_lemmas}
 use Rattle.std.proofs.lemmas.Bool.Decides.{Decides-eqb}
@@ -6,9 +6,10 @@ use Rattle.std.proofs.lemmas.Int.{ints}
 use Rattle.mn_model.specs.declared.constraint.Con.{Con}
 use Rattle.mn_model.specs.declared.constraint.Term.TheVariants.{Const}
 use Rattle.mn_meaning.specs.Families.{IsEntry, IsGreatest, IsLeast, distinct_count, quotient, sum_of, weighted_sum}
-use Rattle.mn_meaning.specs.Meaning.{HoldsOver, Meets, values_at, value_of}
-use Rattle.mn_meaning.proofs.Fronts.{with_behind, with_rest, with_two_behind}
-use Rattle.mn_meaning.proofs.Made.{each_holds, none_holds, each_on, first_fails, first_holds, implied_over, made_implied, made_negated, made_reified, near_first, near_implied, near_negated, near_others, near_reified, reified_over, short_first, short_implied, short_negated, short_others, short_reified, some_on}
+use Rattle.mn_meaning.specs.Meaning.{HoldsOver, values_at, value_of}
+use Rattle.mn_model.proofs.Children.{made_implied, made_negated, made_reified}
+use Rattle.mn_meaning.proofs.Fronts.{with_behind, with_two_behind}
+use Rattle.mn_meaning.proofs.Made.{each_holds, none_holds, each_on, first_fails, first_holds, implied_over, near_first, near_implied, near_negated, near_others, near_reified, reified_over, short_first, short_implied, short_negated, short_others, short_reified, some_on}
 use Rattle.mn_meaning.proofs.Told.{at_most_told, at_three, at_two, at_value, exactly_told, follows_told, found_to_be, none_follows, not_told, one_told, only_false, passed}
 use Rattle.mn_meaning.proofs.meaning.+meeting.Goals as goal
 use mir.Syntax.{w128}

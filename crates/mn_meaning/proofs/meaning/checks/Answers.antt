@@ -4,7 +4,7 @@ use Rattle.mn_model.specs.Lawful.{IsLawfulCon, IsMeant}
 use Rattle.mn_model.specs.Problem.{domains_of}
 use Rattle.mn_model.specs.declared.constraint.Con.{Con}
 use Rattle.mn_meaning.specs.Meaning.{Holds, HoldsAll}
-use Rattle.mn_meaning.proofs.Checked.{all_at, all_hold, broken, meant_from_lawful, one_more}
+use Rattle.mn_meaning.proofs.Checked.{all_at, all_hold, meant_from_lawful, one_more}
 use Rattle.mn_meaning.proofs.meaning.checks.Goals as goal
 
 pub holds-requires-clause-meant : goal.holds-requires-clause-meant

@@ -1,4 +1,4 @@
-use Rattle.std.proofs.Common.{◌≡◌, ◌<ℤ◌, length, of_z, ap, ◌∙◌, sym, true≢false, arith, w64, rules}
+use Rattle.std.proofs.Common.{◌≡◌, ◌<ℤ◌, of_z, ap, ◌∙◌, sym, true≢false, arith, w64}
 use Rattle.std.proofs.lemmas.Int.{ints}
 use Rattle.std.proofs.lemmas.Slice.Zip.{either_empty_from_Zip}
 use Rattle.std.proofs.lemmas.Bool.Decides.{Decides-eqb}
@@ -6,7 +6,7 @@ use Rattle.std.proofs.lemmas.List.{length-map}
 use Rattle.std.specs.Iterator.Adapters.{zip_first, zip_second}
 use Rattle.std.specs.Slice.Iter.{iter_rest}
 use Rattle.mn_meaning.specs.Meaning.{value_of}
-use Rattle.mn_meaning.proofs.Lexical.{past_equal, at_difference, at_last}
+use Rattle.mn_meaning.proofs.Lexical.{at_difference, at_last}
 use Rattle.mn_meaning.proofs.Places.{value_next, both_end}
 use Rattle.mn_meaning.proofs.orders.is_below.Goals as goal
 

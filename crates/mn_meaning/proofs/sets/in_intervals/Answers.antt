@@ -1,4 +1,4 @@
-use Rattle.std.proofs.Common.{◌≡◌, ◌↔◌, ℤ, pos, ◌≤ℤ◌, List, get_or, w64, sym, subst, ◌∙◌, true≢false, rules, arith}
+use Rattle.std.proofs.Common.{◌↔◌, ℤ, pos, ◌≤ℤ◌, List, get_or, w64, sym, subst, ◌∙◌, true≢false, rules, arith}
 use Rattle.std.proofs.lemmas.Int.{ints, to_z-of_z}
 use Rattle.std.specs.Int.RustNames.{FitsSigned}
 use Rattle.mn_meaning.specs.Families.{InIntervals}

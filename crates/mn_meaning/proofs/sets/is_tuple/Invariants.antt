@@ -1,4 +1,4 @@
-use Rattle.std.proofs.Common.{◌↔◌, ◌<◌, length}
+use Rattle.std.proofs.Common.{◌↔◌, length}
 use Rattle.mn_model.specs.Members.{HasMember}
 use Rattle.mn_meaning.specs.Families.{rows_of}
 use Rattle.mn_meaning.specs.Meaning.{values_at}

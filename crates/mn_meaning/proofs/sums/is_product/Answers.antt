@@ -1,6 +1,5 @@
-use Rattle.std.proofs.Common.{◌≡◌, ℤ, ◌*ℤ◌, to_z, of_z, rules, arith}
+use Rattle.std.proofs.Common.{◌≡◌, ◌*ℤ◌, to_z, of_z, rules, arith}
 use Rattle.std.proofs.lemmas.Int.{ints}
-use Rattle.std.specs.Int.RustNames.{FitsSigned}
 use Rattle.mn_meaning.proofs.Places.{same_bits}
 use Rattle.mn_meaning.proofs.sums.is_product.Goals as goal
 use mir.Syntax.{w128}

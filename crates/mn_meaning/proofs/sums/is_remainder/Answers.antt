@@ -1,6 +1,5 @@
-use Rattle.std.proofs.Common.{◌≡◌, ℤ, pos, ◌-ℤ◌, ◌*ℤ◌, to_z, of_z, w64, ap, ◌∙◌, rules, arith}
+use Rattle.std.proofs.Common.{◌≡◌, ◌-ℤ◌, ◌*ℤ◌, to_z, of_z, w64, ◌∙◌, rules, arith}
 use Rattle.std.proofs.lemmas.Int.{ints, to_z-of_z}
-use Rattle.std.specs.Int.RustNames.{FitsSigned}
 use Rattle.mn_meaning.specs.Families.{quotient}
 use Rattle.mn_meaning.proofs.Places.{same_bits}
 use Rattle.mn_meaning.proofs.Quotients.{product_between}

@@ -1,4 +1,4 @@
-use Rattle.std.proofs.Common.{rules, ◌≡◌, ◌≤◌, ap, sym, ◌∙◌, ◌∷◌, ◌++◌, [], arith, subst}
+use Rattle.std.proofs.Common.{ap, sym, ◌∙◌, ◌∷◌, ◌++◌, [], arith}
 use Rattle.mn_model.specs.Negation.{followed_by, more}
 use Rattle.mn_model.specs.declared.constraint.Cons.{size-Cons}
 use Rattle.mn_model.proofs.Children.{followed_by-push, made_more, others_below}

@@ -1,8 +1,7 @@
-use Rattle.std.proofs.Common.{rules, ◌≡◌, ◌≤◌, ◌<◌, ◌+◌, ap, sym, ◌∙◌, arith, subst}
+use Rattle.std.proofs.Common.{◌≡◌, ◌<◌, ap, sym, ◌∙◌, arith}
 use Rattle.mn_model.specs.Parts.{cell_count, cell_count_of}
 use Rattle.mn_model.specs.declared.constraint.Cons.{size-Cons}
 use Rattle.mn_model.specs.declared.constraint.Con.{size-Con}
-use Rattle.mn_model.specs.declared.limits.TheConstants.{CELLS}
 use Rattle.mn_model.proofs.Children.{cells_reified, cells_implied, cells_negated, cells_more, others_below, first_below, reified_below, implied_below, negated_below}
 use Rattle.mn_model.proofs.constraint.+counting.Goals as goal
 

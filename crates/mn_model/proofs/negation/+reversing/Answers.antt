@@ -1,4 +1,4 @@
-use Rattle.std.proofs.Common.{rules, ◌≡◌, ◌≤◌, ◌<◌, ◌+◌, ◌++◌, ◌∷◌, [], pos, ap, sym, ◌∙◌, arith, subst}
+use Rattle.std.proofs.Common.{◌≡◌, ◌<◌, ◌++◌, ◌∷◌, [], pos, ap, sym, ◌∙◌, arith, subst}
 use Rattle.std.specs.Result.{IfOk}
 use Rattle.mn_model.specs.Lawful.{HasNearConstants, HaveNearConstants}
 use Rattle.mn_model.specs.Negation.{negation, negations, followed_by, more, reified}

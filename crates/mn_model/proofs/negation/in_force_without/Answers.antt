@@ -1,6 +1,6 @@
-use Rattle.std.proofs.Common.{◌≡◌, ap, ◌∙◌, pos}
+use Rattle.std.proofs.Common.{ap, ◌∙◌}
 use Rattle.mn_model.specs.Negation.{more}
-use Rattle.mn_model.specs.declared.constraint.Con.TheVariants.{WatchedAnd, WLiteral, End}
+use Rattle.mn_model.specs.declared.constraint.Con.TheVariants.{WatchedAnd}
 use Rattle.mn_model.proofs.Children.{made_more}
 use Rattle.mn_model.proofs.negation.in_force_without.Goals as goal
 

@@ -1,4 +1,4 @@
-use Rattle.std.proofs.Common.{◌≡◌, ap, ◌∙◌}
+use Rattle.std.proofs.Common.{ap, ◌∙◌}
 use Rattle.mn_model.specs.Negation.{negated}
 use Rattle.mn_model.proofs.Children.{made_negated}
 use Rattle.mn_model.proofs.negation.negated.Goals as goal

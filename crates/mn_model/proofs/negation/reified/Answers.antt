@@ -1,4 +1,4 @@
-use Rattle.std.proofs.Common.{◌≡◌, ap, ◌∙◌}
+use Rattle.std.proofs.Common.{ap, ◌∙◌}
 use Rattle.mn_model.specs.Negation.{reified}
 use Rattle.mn_model.proofs.Children.{made_reified}
 use Rattle.mn_model.proofs.negation.reified.Goals as goal

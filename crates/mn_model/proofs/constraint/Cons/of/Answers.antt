@@ -1,4 +1,4 @@
-use Rattle.std.proofs.Common.{◌≡◌, ap, sym, ◌∙◌, ◌∷◌, []}
+use Rattle.std.proofs.Common.{ap, sym, ◌∙◌}
 use Rattle.mn_model.specs.Negation.{followed_by, more}
 use Rattle.mn_model.proofs.Children.{followed_by-push, made_more}
 use Rattle.mn_model.proofs.constraint.Cons.of.Goals as goal

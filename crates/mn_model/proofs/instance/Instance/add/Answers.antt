@@ -1,4 +1,4 @@
-use Rattle.std.proofs.Common.{◌≡◌, ◌+◌, ◌<◌, ◌≤◌, length, sym, subst}
+use Rattle.std.proofs.Common.{◌+◌, ◌<◌, ◌≤◌, length, sym, subst}
 use Rattle.mn_model.specs.Lawful.{IsLawfulCon}
 use Rattle.mn_model.specs.Parts.{cell_count}
 use Rattle.mn_model.specs.Problem.{Problem, domains_of, cells_of}

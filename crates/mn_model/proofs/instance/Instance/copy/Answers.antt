@@ -1,6 +1,5 @@
-use Rattle.std.proofs.Common.{◌≡◌, ◌∙◌}
+use Rattle.std.proofs.Common.{◌∙◌}
 use Rattle.mn_model.proofs.Growing.{IsKept-copy, copied_read}
-use Rattle.mn_model.specs.Problem.{Problem}
 use Rattle.mn_model.proofs.instance.Instance.copy.Goals as goal
 
 pub invariant_of-result : goal.invariant_of-result

@@ -5,7 +5,7 @@ use Rattle.mn_model.proofs.Found.{lookup-entries_read}
 use Rattle.mn_model.proofs.Growing.{IsKept-declare, new_name}
 use Rattle.mn_model.proofs.Kept.{decls_within, owned-push, read-push}
 use Rattle.mn_model.proofs.Variables.{length-owners_from}
-use Rattle.mn_model.specs.Index.{entries_read, owners_from}
+use Rattle.mn_model.specs.Index.{entries_read}
 use Rattle.mn_model.specs.Problem.{Problem, declared_as, aliased_as, variable_count, size_of_dims}
 use Rattle.mn_model.specs.Variable.{number_of}
 use Rattle.mn_model.specs.declared.declaration.Decl.{Decl}

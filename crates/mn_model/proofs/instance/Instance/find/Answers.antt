@@ -1,17 +1,11 @@
-use Rattle.std.proofs.Common.{◌≡◌, ℕ, ◌+◌, ◌<◌, ◌≤◌, ap, subst, sym, ◌∙◌, arith, refl, length, List, Some, None, slice_get, string_bytes}
+use Rattle.std.proofs.Common.{◌≡◌, ◌+◌, ◌≤◌, ap, subst, sym, ◌∙◌, arith, refl, length, Some, slice_get}
 use Rattle.std.proofs.lemmas.Option.{slice_get_read}
-use Rattle.std.specs.List.{AllByRecursion}
-use Rattle.std.specs.Map.{lookup}
-use Rattle.std.specs.Option.{option_copied, option_and_then}
-use Rattle.std.specs.Str.{bytes_eq}
+use Rattle.std.specs.Option.{option_copied}
 use Rattle.mn_model.proofs.Kept.{AllByRecursion-at, numbered_within}
-use Rattle.mn_model.proofs.Looking.{declared_at, aliased_at, undeclared, unaliased, declared_is, aliased_is, not_alias, not_declared, listed_at, unlisted}
-use Rattle.mn_model.specs.Lawful.{IsLawfulAlias, IsLawfulDecl, IsKnown}
-use Rattle.mn_model.specs.Problem.{Problem, declared_as, aliased_as, listed_as, domains_of, size_of_dims, variable_count, variable_named, variable_by, variable_in, variable_through}
+use Rattle.mn_model.proofs.Looking.{declared_at, undeclared, declared_is, not_declared}
+use Rattle.mn_model.specs.Lawful.{IsLawfulDecl}
+use Rattle.mn_model.specs.Problem.{Problem, declared_as, size_of_dims, variable_count}
 use Rattle.mn_model.specs.Variable.{number_of}
-use Rattle.mn_model.specs.declared.declaration.Alias.{Alias}
-use Rattle.mn_model.specs.declared.declaration.Decl.{Decl}
-use Rattle.mn_model.specs.declared.instance.Entry.TheVariants.{Declared, Aliased}
 use Rattle.mn_model.proofs.instance.Instance.find.Goals as goal
 
 pub returns-in_err-place-clause-found : goal.returns-in_err-place-clause-found
