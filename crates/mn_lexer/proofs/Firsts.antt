@@ -6,6 +6,7 @@ use Rattle.std.proofs.lemmas.Bool.Decides.{nat_tests}
 use Rattle.mn_lexer.specs.FirstBytes.{kind_of_first, is_of_class}
 use Rattle.mn_lexer.specs.declared.classes.Class.TheVariants as class
 use Rattle.mn_lexer.specs.Bytes.{is_blank, begins_comment}
+use Rattle.mn_lexer.specs.Gaps.{gap}
 use Rattle.mn_lexer.specs.Forms.{HasForm, IsLongest, BeginsNoToken}
 use Rattle.mn_lexer.specs.Marks.{mark_text}
 use Rattle.mn_lexer.specs.declared.marks.Mark.{Mark}
@@ -94,3 +95,17 @@ blank_first b blank = grind (arith, nat_tests)
 
 pub comment_first : (b : ℕ) → begins_comment b ≡ true → kind_of_first b ≡ None
 comment_first b hash = rw (eqb-true b 35 hash) refl
+
+-- where a token begins, no gap does
+pub first_gap : (bs : List ℕ) (k : TokenKind) → kind_of_first (get_or bs 0 0) ≡ Some k → gap bs ≡ 0
+first_gap [] k first = refl
+first_gap (b ∷ bs) k first =
+    ⊎_elim
+    (λ blank. let none = blank_first b blank in absurd cc)
+    (λ filled.
+    rw filled
+    (⊎_elim
+    (λ hash. let none = comment_first b hash in absurd cc)
+    (λ plain. rw plain refl)
+    (cases_Bool (begins_comment b))))
+    (cases_Bool (is_blank b))

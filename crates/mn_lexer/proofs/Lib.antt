@@ -6,3 +6,4 @@ pub mod Heads
 pub mod Skips
 pub mod Numerals
 pub mod Readings
+pub mod Storing

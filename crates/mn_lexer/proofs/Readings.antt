@@ -1,14 +1,15 @@
 -- The tokens of a text: no text has two lists of them, and a list grows token by token.
 use Rattle.std.proofs.Common.{◌≡◌, ℕ, ◌+◌, ◌<◌, ◌≤◌, Bool, false, List, [], ◌∷◌, ◌++◌, Option, Some, None, length, take, drop, get_or, refl, sym, ap, ◌∙◌, subst, ⊎_elim, arith, length-drop, append_assoc}
-use Rattle.std.specs.Prelude.{MatchBool, All}
+use Rattle.std.specs.Prelude.{MatchBool, All, codes}
+use Rattle.std.proofs.lemmas.Slice.Eq.{bytes_eq-Decides}
 use Rattle.std.proofs.lemmas.Bool.{cases_Bool, cases_lt, cases_order, MatchBool-at_true, MatchBool-at_false}
 use Rattle.std.proofs.lemmas.List.{drop_all, append-nil}
 use Rattle.std.proofs.lemmas.List.Elements.{All-push}
 use Rattle.mn_lexer.specs.FirstBytes.{kind_of_first}
-use Rattle.mn_lexer.specs.Forms.{IsLongest}
+use Rattle.mn_lexer.specs.Forms.{HasForm, IsLongest}
 use Rattle.mn_lexer.specs.Numbers.{number_value, IsWithinLimit}
-use Rattle.mn_lexer.specs.Reading.{next_place, IsAllowed, IsNext, is_end, Ends, Cuts, IsLexed, IsTokenOf, OneReading}
-use Rattle.mn_lexer.proofs.Firsts.{kind_of_front}
+use Rattle.mn_lexer.specs.Reading.{bytes_of, next_place, BeginsPastNumber, IsAllowed, IsNext, is_end, Ends, Cuts, IsLexed, IsTokenOf, OneReading}
+use Rattle.mn_lexer.proofs.Firsts.{kind_of_front, kind_of_first-form, first_gap}
 use Rattle.mn_lexer.specs.declared.Token.{Token}
 use Rattle.mn_lexer.specs.declared.TokenKind.{TokenKind}
 use Rattle.mn_lexer.specs.declared.TokenKind.TheVariants as kind
@@ -99,6 +100,28 @@ pub record CutsUpTo (text : List ℕ) (ts : List Token) (at : ℕ) : Type 0 wher
 case_false : {b : Bool} (P Q : Type 0) → b ≡ false → Q → MatchBool b P Q
 case_false P Q e q = subst (λ x. MatchBool x P Q) (sym e) q
 
+-- a list of tokens hangs on the place where the next one may stand, and on no more
+cuts_from : (text : List ℕ) (from to : ℕ) → next_place text from ≡ next_place text to → (ts : List Token) (stop : Option LexFault) → Cuts text from ts stop → Cuts text to ts stop
+cuts_from text from to same [] stop cut = subst (λ x. Ends text x stop) same cut
+cuts_from text from to same (t ∷ ts) stop cut = (record { place = cut.0.place ∙ same; longest = cut.0.longest; allowed = cut.0.allowed }, cut.1)
+
+-- a token stands in no gap
+no_gap : (text : List ℕ) (at : ℕ) (k : TokenKind) (n : ℕ) → IsLongest (drop at text) k n → next_place text at ≡ at
+no_gap text at k n longest =
+    let gap_is = first_gap (drop at text) k (kind_of_front k (drop at text) n longest.form) in
+    omega arith
+
+-- only a head is `**EOF**`
+never_end : (text : List ℕ) (t : Token) → HasForm t.kind (bytes_of text t) → (kind.Head ≡ t.kind → ⊥) → is_end text t ≡ false
+never_end text t form plain =
+    ⊎_elim
+    (λ ends.
+    let same : bytes_of text t ≡ codes "**EOF**" = (bytes_eq-Decides (bytes_of text t) (codes "**EOF**")).0 ends in
+    let first : Some kind.Head ≡ Some t.kind = kind_of_first-form t.kind 42 _ (subst (HasForm t.kind) same form) in
+    absurd (plain cc))
+    (λ goes_on. goes_on)
+    (cases_Bool (is_end text t))
+
 module _ (text : List ℕ) (ts : List Token) (at : ℕ) (before : CutsUpTo text ts at) where
   -- one more token
   pub push_next : (t : Token) → IsNext text at t → is_end text t ≡ false → CutsUpTo text (ts ++ t ∷ []) (t.at + t.len)
@@ -113,3 +136,23 @@ module _ (text : List ℕ) (ts : List Token) (at : ℕ) (before : CutsUpTo text 
   -- what ends it without a token
   pub stop_here : (stop : Option LexFault) → Ends text (next_place text at) stop → IsLexed text ts stop
   stop_here stop ends = subst (λ x. IsLexed text x stop) (append-nil ts) (before.completes [] stop ends)
+
+  -- what stands between is passed over
+  pub go_on : (to : ℕ) → to ≤ length text → next_place text to ≡ next_place text at → CutsUpTo text ts to
+  go_on to within same = record {
+    completes = λ more stop cut. before.completes more stop (cuts_from text to at same more stop cut);
+    each = before.each;
+    in_text = within;
+  }
+
+  -- the longest token at the place, if it can't be `**EOF**`
+  pub add_next : (k : TokenKind) (n : ℕ) → IsLongest (drop at text) k n → IsAllowed k (take n (drop at text)) → (kind.Head ≡ k → ⊥) → CutsUpTo text (ts ++ record { kind = k; at = at; len = n } ∷ []) (at + n)
+  add_next k n longest allowed plain =
+      let next : IsNext text at (record { kind = k; at = at; len = n }) = record { place = sym (no_gap text at k n longest); longest = longest; allowed = allowed } in
+      push_next (record { kind = k; at = at; len = n }) next (never_end text (record { kind = k; at = at; len = n }) longest.form plain)
+
+  -- a number past the limit ends it
+  pub past_here : BeginsPastNumber (drop at text) → IsLexed text ts (Some (NumberRange at))
+  past_here past =
+      let here : at ≡ next_place text at = sym (no_gap text at kind.Number past.0 past.1) in
+      stop_here (Some (NumberRange at)) (here, subst (λ x. BeginsPastNumber (drop x text)) here past)

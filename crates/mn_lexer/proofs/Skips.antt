@@ -5,8 +5,9 @@ use Rattle.std.proofs.Math.Numerals.{one-add}
 use Rattle.std.proofs.lemmas.Bool.{cases_Bool, eqb-true}
 use Rattle.std.proofs.lemmas.List.{drop_more, drop-drop, take_rest, length-drop}
 use Rattle.std.proofs.lemmas.List.Sums.{prefix_len-le-length}
-use Rattle.mn_lexer.specs.Bytes.{is_line_feed, begins_comment}
+use Rattle.mn_lexer.specs.Bytes.{is_blank, is_line_feed, begins_comment}
 use Rattle.mn_lexer.specs.Gaps.{gap, gap_in_comment}
+use Rattle.mn_lexer.specs.Reading.{next_place}
 
 -- a comment goes on to its line feed, which is a blank
 pub gap_in_comment_is : (bs : List ℕ) → gap_in_comment bs ≡ position_or_len is_line_feed bs + gap (drop (position_or_len is_line_feed bs) bs)
@@ -32,3 +33,9 @@ module _ (s : List ℕ) (n : ℕ) (within : n < length s) where
       let behind : drop q (drop (n + 1) s) ≡ drop (n + 1 + q) s = drop-drop q (n + 1) s in
       let gaps : gap_in_comment (drop (n + 1) s) ≡ q + gap (drop q (drop (n + 1) s)) = subst (λ x. gap_in_comment (drop (n + 1) s) ≡ x + gap (drop x (drop (n + 1) s))) (sym count) (gap_in_comment_is (drop (n + 1) s)) in
       (omega (arith, length-drop (n + 1) s), omega (arith, gaps, ap gap behind, gap_at_comment (eqb-true (get_or s n 0) 35 hash)))
+
+  -- n moves behind a blank
+  pub skip_blank : is_blank (get_or s n 0) ≡ true → next_place s (n + 1) ≡ next_place s n
+  skip_blank blank =
+      let gaps : gap (drop n s) ≡ 1 + gap (drop (n + 1) s) = rw (drop_more s n 0 within) (rw blank refl) in
+      omega (arith, gaps)

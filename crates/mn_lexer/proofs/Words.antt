@@ -1,10 +1,10 @@
 -- The longest word and the longest number at the front.
-use Rattle.std.proofs.Common.{◌≡◌, ℕ, suc, zero, ◌+◌, ◌<◌, true, false, List, [], ◌∷◌, take, drop, get_or, refl, subst, arith}
+use Rattle.std.proofs.Common.{◌≡◌, ℕ, suc, zero, ◌+◌, ◌<◌, true, false, List, [], ◌∷◌, take, drop, get_or, refl, ap, ◌∙◌, subst, arith}
 use Rattle.std.specs.List.{prefix_len}
 use Rattle.std.specs.Char.{is_ascii_digit}
 use Rattle.std.proofs.Math.Numerals.{one-add}
 use Rattle.std.proofs.lemmas.Bool.{and_parts, ne_eqb, or_left}
-use Rattle.std.proofs.lemmas.List.{length-take-le}
+use Rattle.std.proofs.lemmas.List.{length-take-le, get_or-drop}
 use Rattle.std.proofs.lemmas.List.Sums.{prefix_len-le-length}
 use Rattle.mn_lexer.specs.Bytes.{is_word_start, is_word_byte}
 use Rattle.mn_lexer.specs.Forms.{IsNumber, IsLongest, BeginsNoToken}
@@ -87,3 +87,6 @@ lone_minus (b ∷ bs) minus none =
 pub longest_plain : (bs : List ℕ) → is_ascii_digit (get_or bs 0 0) ≡ true → IsLongest bs kind.Number (prefix_len is_ascii_digit bs)
 longest_plain [] digit = cc
 longest_plain (b ∷ bs) digit = plain_number b bs (digit_not_minus b digit) digit
+
+pub first_at : (text : List ℕ) (at : ℕ) → get_or (drop at text) 0 0 ≡ get_or text at 0
+first_at text at = let same : at + 0 ≡ at = omega arith in get_or-drop at text 0 0 ∙ ap (λ i. get_or text i 0) same

@@ -7,3 +7,4 @@ pub mod Reading
 pub mod FirstBytes
 pub mod Next
 pub mod Terminals
+pub mod Stored

@@ -51,5 +51,5 @@ pub fn class_of(byte: u8) -> Class
 pub fn is_word_byte(byte: u8) -> bool
     ensures { result ≡ is_word_byte byte }
 {
-    byte.is_ascii_alphanumeric() || byte == b'_' || byte == b'-'
+    matches!(class_of(byte), Letter | Digit | Minus)
 }

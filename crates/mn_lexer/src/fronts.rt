@@ -1,14 +1,16 @@
 // What stands at the front of the rest of a text: the longest token, or what is left of a comment.
-ghost use Rattle.std.specs.Prelude.{◌≡◌, slice_index, IsTrue, MatchOption};
+ghost use Rattle.std.specs.Prelude.{◌≡◌, ◌<◌, length, take, drop, slice_index, IsTrue, MatchOption};
 ghost use Rattle.std.specs.Char.{is_ascii_digit, is_ascii_uppercase};
 ghost use Rattle.std.specs.List.{prefix_len, position_or_len};
 ghost use Rattle.std.specs.Str.{byte};
 ghost use Rattle.mn_lexer.specs.Bytes.{is_word_byte, is_line_feed};
 ghost use Rattle.mn_lexer.specs.FirstBytes.{is_of_class};
 ghost use Rattle.mn_lexer.specs.Forms.{IsLongest, BeginsNoToken};
+ghost use Rattle.mn_lexer.specs.Reading.{IsAllowed, BeginsPastNumber};
 
 use super::TokenKind;
 use super::classes::{Class, is_word_byte};
+use super::numbers::is_within_limit;
 
 fn word_bytes(rest: &[u8]) -> usize
     ensures { result ≡ prefix_len is_word_byte rest.now }
@@ -88,5 +90,31 @@ pub fn front(rest: &[u8], class: Class) -> Option<(TokenKind, usize)>
         Class::Mark => Some((TokenKind::Mark, 1)),
         Class::Dot => Some((TokenKind::Mark, dots_len(rest)?)),
         Class::Blank | Class::Hash | Class::Other => None,
+    }
+}
+
+// The length of the word at a place.
+pub fn word_len(text: &[u8], at: usize) -> usize
+    requires in_text { at < length text.now }
+    requires start { IsTrue (is_of_class Class.Letter (slice_index text.now at)) }
+    ensures { IsLongest (drop at text.now) TokenKind.Word result }
+{
+    word_bytes(&text[at..])
+}
+
+// The length of the number with no sign at a place, or None where it is past the limit.
+pub fn digits_len(text: &[u8], at: usize) -> Option<usize>
+    requires in_text { at < length text.now }
+    requires start { IsTrue (is_of_class Class.Digit (slice_index text.now at)) }
+    ensures { MatchOption result
+        (BeginsPastNumber (drop at text.now))
+        (λ len. IsLongest (drop at text.now) TokenKind.Number len × IsAllowed TokenKind.Number (take len (drop at text.now))) }
+{
+    let rest = &text[at..];
+    let len = digits(rest);
+    if is_within_limit(&rest[..len]) {
+        Some(len)
+    } else {
+        None
     }
 }

@@ -9,13 +9,13 @@
 //! The crate stands on std alone.
 #![tactic(auto)]
 
-ghost use Rattle.std.specs.Prelude.{◌≡◌, ◌+◌, ◌≤◌, ◌<◌, length, slice_index, IsTrue, IfOk, All};
+ghost use Rattle.std.specs.Prelude.{◌≡◌, ◌+◌, ◌≤◌, ◌<◌, length, slice_index, IsTrue, IfOk, OnOk, All, ◌∷◌, ◌++◌, []};
 ghost use Rattle.mn_lexer.specs.FirstBytes.{is_of_class};
 ghost use Rattle.mn_lexer.specs.Reading.{IsLexed, IsTokenOf, OneReading, is_end, next_place};
 ghost use Rattle.mn_lexer.specs.Next.{IsNextFrom};
 
 use classes::{Class, class_of};
-use fronts::{comment_bytes, front};
+use fronts::{comment_bytes, digits_len, front, word_len};
 use numbers::is_within_limit;
 use std::alloc::Global;
 
@@ -70,7 +70,7 @@ pub struct Lexed {
     pub stop: Option<LexFault>,
 }
 
-// What comes from a place on: a token, or the end of the list.
+// What stands at a place: a token, or the end of the list.
 enum Next {
     Token(Token),
     Stop(Option<LexFault>),
@@ -98,23 +98,6 @@ fn token_at(text: &[u8], at: usize, class: Class) -> Next
     })
 }
 
-// The next token from a place on, or what ends the list.
-fn next_from(text: &[u8], from: usize) -> Next
-    requires size { length text.now ≤ TEXT_LIMIT }
-    requires in_text { from ≤ length text.now }
-    ensures { IsNextFrom text.now from result }
-{
-    let mut at = from;
-    while at < text.len() {
-        match class_of(text[at]) {
-            Class::Blank => at += 1,
-            Class::Hash => at = at + 1 + comment_bytes(&text[at + 1..]),
-            class => return token_at(text, at, class),
-        }
-    }
-    Next::Stop(None)
-}
-
 // Whether the token is `**EOF**`.
 fn is_end(text: &[u8], token: Token) -> bool
     requires { token.at + token.len ≤ length text.now }
@@ -123,6 +106,20 @@ fn is_end(text: &[u8], token: Token) -> bool
     let at = token.at as usize;
     let end = at + token.len as usize;
     &text[at..end] == b"**EOF**".as_slice()
+}
+
+// One more token. Answers the place behind it.
+fn add(list: &mut Tokens, kind: TokenKind, at: usize, len: usize) -> Result<usize, NoMemory>
+    requires { at + len ≤ TEXT_LIMIT }
+    ensures place { IfOk result (λ to. to ≡ at + len) }
+    ensures list { OnOk result (list.new ≡ list.old ++ record { kind = kind; at = at; len = len } ∷ []) }
+{
+    list.push(Token {
+        kind,
+        at: at as u32,
+        len: len as u32,
+    })?;
+    Ok(at + len)
 }
 
 /// The tokens of a text, up to the first `**EOF**`, the first fault or the end of the text. It takes
@@ -137,18 +134,33 @@ pub fn tokens(alloc: Global, text: &[u8]) -> Result<Lexed, NoMemory>
 {
     let mut list = Tokens::new(alloc);
     let mut at = 0;
-    loop {
-        match next_from(text, at) {
-            Next::Stop(stop) => return Ok(Lexed { list, stop }),
-            Next::Token(token) => {
-                list.push(token)?;
-                if is_end(text, token) {
-                    return Ok(Lexed { list, stop: None });
+    while at < text.len() {
+        match class_of(text[at]) {
+            Class::Blank => at += 1,
+            Class::Hash => at = at + 1 + comment_bytes(&text[at + 1..]),
+            // Most tokens are of these three classes, and each class adds its own.
+            Class::Mark => at = add(&mut list, TokenKind::Mark, at, 1)?,
+            Class::Letter => at = add(&mut list, TokenKind::Word, at, word_len(text, at))?,
+            Class::Digit => match digits_len(text, at) {
+                Some(len) => at = add(&mut list, TokenKind::Number, at, len)?,
+                None => {
+                    let stop = Some(LexFault::NumberRange(at as u64));
+                    return Ok(Lexed { list, stop });
                 }
-                at = token.at as usize + token.len as usize;
-            }
+            },
+            class => match token_at(text, at, class) {
+                Next::Stop(stop) => return Ok(Lexed { list, stop }),
+                Next::Token(token) => {
+                    list.push(token)?;
+                    if is_end(text, token) {
+                        return Ok(Lexed { list, stop: None });
+                    }
+                    at = token.at as usize + token.len as usize;
+                }
+            },
         }
     }
+    Ok(Lexed { list, stop: None })
 }
 
 /// A law: no text has two lists of tokens.

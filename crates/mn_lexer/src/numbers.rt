@@ -39,7 +39,8 @@ pub fn is_within_limit(bytes: &[u8]) -> bool
     requires { IsNumber bytes.now }
     ensures { IsTrue result ↔ IsWithinLimit (number_value bytes.now) }
 {
-    value_of_digits(without_sign(bytes)).is_some()
+    // Nine digits are too few to pass it.
+    bytes.len() <= 9 || value_of_digits(without_sign(bytes)).is_some()
 }
 
 /// The value of a token of kind `Number`, by its bytes.

@@ -1,7 +1,9 @@
 ghost use Rattle.std.specs.Prelude.{All};
 ghost use Rattle.mn_lexer.specs.Reading.{IsTokenOf};
 
-use super::{LexFault, Mark, NoMemory, Token, TokenKind, Tokens, mark_of, number_value, tokens};
+use super::{
+    LexFault, Mark, NoMemory, TEXT_LIMIT, Token, TokenKind, Tokens, mark_of, number_value, tokens,
+};
 use std::alloc::Global;
 
 // Each token with a letter for its kind, and a space behind it.
@@ -189,5 +191,36 @@ fn a_list_grows(rt: HostRuntime) -> Result<(), NoMemory> {
     assert_eq!(rt; list.len(), 1);
     assert_eq!(rt; list.get(0), token);
     super::one_reading();
+    Ok(())
+}
+
+// The places and the lengths of the tokens of a text that is words of these lengths.
+fn places(alloc: Global, lens: &[usize]) -> Result<Vec<u32>, NoMemory> {
+    let mut text = Vec::new(alloc);
+    for len in lens.iter() {
+        for _ in 0..*len {
+            text.push(b'x')?;
+        }
+        text.push(b' ')?;
+    }
+    let mut out = Vec::new(alloc);
+    if text.len() > TEXT_LIMIT {
+        return Ok(out);
+    }
+    let lexed = tokens(alloc, text.as_slice())?;
+    for i in 0..lexed.list.len() {
+        let token = lexed.list.get(i);
+        out.push(token.at)?;
+        out.push(token.len)?;
+    }
+    Ok(out)
+}
+
+#[test]
+fn long_words(rt: HostRuntime) -> Result<(), NoMemory> {
+    let places = places(rt.alloc(), &[65_534, 65_535, 70_000, 1])?;
+    assert!(rt;
+        places.as_slice() == [0, 65_534, 65_535, 65_535, 131_071, 70_000, 201_072, 1].as_slice()
+    );
     Ok(())
 }
