@@ -1,5 +1,3 @@
-pub mod Worked
-pub mod Askable
 pub mod TupleListLaw
 pub mod TupleListSteps
 pub mod AliasLaw
@@ -8,5 +6,3 @@ pub mod AliasSteps
 pub mod LawfulAliases
 pub mod VariableSteps
 pub mod Ranges
-pub mod AskingSteps
-pub mod LawfulAsking

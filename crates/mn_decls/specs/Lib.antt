@@ -3,6 +3,3 @@ pub mod Variables
 pub mod TupleLists
 pub mod Words
 pub mod Brackets
-pub mod Search
-pub mod Searching
-pub mod Asking

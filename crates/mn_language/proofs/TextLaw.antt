@@ -22,13 +22,13 @@ use Rattle.mn_grammar.proofs.Views.{Lawful-view}
 use Rattle.mn_grammar.proofs.Exact.{exact}
 use Rattle.mn_model.specs.Problem.{Problem}
 use Rattle.mn_cursor.specs.Heads.{head_token, all_heads}
-use Rattle.mn_decls.specs.Search as asks
-use Rattle.mn_decls.specs.Searching.{search_at}
+use Rattle.mn_asking.specs.Search as asks
+use Rattle.mn_asking.specs.Searching.{search_at}
 use Rattle.mn_decls.specs.TupleLists.{TupleList as Tuples, tuplelist_spec, tuplelist_at, whole}
 use Rattle.mn_decls.specs.Variables.{Entry, declares, names, variables_spec, variables_at}
 use Rattle.mn_cursor.specs.declared.heads.Head.{Head}
 use Rattle.mn_cursor.specs.declared.heads.Head.TheVariants.{Variables, TupleList, Search, Constraints, End}
-use Rattle.mn_decls.proofs.Askable as askable
+use Rattle.mn_asking.proofs.Askable as askable
 use Rattle.mn_decls.proofs.TupleListLaw.{heads_known, lists_law}
 use Rattle.mn_decls.proofs.VariableLaw as variable_law
 use Rattle.mn_language.specs.Constraints.{Constraint, simple, gathers_none, gathers, ties, constraints_spec}

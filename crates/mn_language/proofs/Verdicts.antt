@@ -24,7 +24,7 @@ use Rattle.mn_model.specs.declared.refusal.Refusal.TheVariants as refusals
 use Rattle.mn_model.specs.declared.refusal.Which.TheVariants.{Text}
 use Rattle.mn_cursor.specs.Heads.{head_token}
 use Rattle.mn_cursor.specs.Progress.{Progress, nothing_asked, rest, end_of, byte_at, refusal_at, refusal_of, IsTold}
-use Rattle.mn_decls.specs.Search as asks
+use Rattle.mn_asking.specs.Search as asks
 use Rattle.mn_decls.specs.TupleLists.{TupleList, spell_list, spell_lists}
 use Rattle.mn_decls.specs.Variables.{Entry, spell_entry, spell_declarations}
 use Rattle.mn_cursor.specs.declared.heads.Head.TheVariants.{End}

@@ -17,7 +17,7 @@ use Rattle.mn_grammar.specs.declared.Kind.{Kind}
 use Rattle.mn_grammar.specs.declared.Kind.TheVariants.{Name as Known, Syntax, Unsupported, Again, Lex as Unlexed}
 use Rattle.mn_cursor.specs.Heads.{head_token}
 use Rattle.mn_references.specs.Referring.{sub_at, subs_at, behind_name, ref_at, behind_entry, entry_at}
-use Rattle.mn_decls.specs.Searching.{order_at, behind_static, var_order_at, item_rest, item_first, search_at}
+use Rattle.mn_asking.specs.Searching.{order_at, behind_static, var_order_at, item_rest, item_first, search_at}
 use Rattle.mn_decls.specs.TupleLists as lists
 use Rattle.mn_decls.specs.Variables as vars
 use Rattle.mn_cursor.specs.declared.heads.Head.TheVariants.{Variables, TupleList, Search, Constraints, End}

@@ -17,9 +17,9 @@ use Rattle.mn_cursor.specs.Heads.{head_token}
 use Rattle.mn_cursor.specs.Progress.{nothing_asked, end_of, byte_at, refusal_at}
 use Rattle.mn_decls.specs.Variables.{Entry, spell_declarations, breaks_declarations, value_declarations}
 use Rattle.mn_decls.specs.TupleLists.{TupleList, whole, spell_lists, breaks_lists, value_lists}
-use Rattle.mn_decls.specs.Search as asks
+use Rattle.mn_asking.specs.Search as asks
 use Rattle.mn_cursor.specs.declared.asked.Asked.{Asked}
-use Rattle.mn_decls.specs.Search.{Asking, Item}
+use Rattle.mn_asking.specs.Search.{Asking, Item}
 use Rattle.mn_cursor.specs.declared.heads.Head.{Head}
 use Rattle.mn_cursor.specs.declared.heads.Head.TheVariants as heads
 use Rattle.mn_language.specs.Constraints as constrains

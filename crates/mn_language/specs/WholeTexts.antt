@@ -8,8 +8,8 @@ use Rattle.mn_model.specs.Problem.{Problem}
 use Rattle.mn_model.specs.declared.refusal.Refusal.{Refusal}
 use Rattle.mn_cursor.specs.Heads.{head_token, all_heads}
 use Rattle.mn_cursor.specs.Progress.{Progress, IsTold}
-use Rattle.mn_decls.specs.Search.{Asking}
-use Rattle.mn_decls.specs.Searching.{search_at}
+use Rattle.mn_asking.specs.Search.{Asking}
+use Rattle.mn_asking.specs.Searching.{search_at}
 use Rattle.mn_decls.specs.TupleLists.{tuplelist_at}
 use Rattle.mn_decls.specs.Variables.{variables_at}
 use Rattle.mn_cursor.specs.declared.heads.Head.{Head}

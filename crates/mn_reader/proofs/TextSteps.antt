@@ -1,5 +1,5 @@
 -- What the code of whole texts does, step by step, is what the reader answers.
-use Rattle.mn_decls.specs.Asking.{ReadsAsking}
+use Rattle.mn_asking.specs.Asking.{ReadsAsking}
 use Rattle.std.specs.Prelude.{IfOk, IfErr}
 use Rattle.std.proofs.Common.{◌≡◌, suc, ◌-◌, ◌<◌, ◌≤◌, Bool, true, false, List, [], ◌∷◌, length, drop, codes, Some, None, Ok, Err, Result, refl, sym, ap, ◌∙◌, subst, arith}
 use Rattle.mn_lexer.specs.Terminals.{Terminal}
@@ -16,7 +16,7 @@ use Rattle.mn_model.specs.declared.refusal.Refusal.TheVariants as refusals
 use Rattle.mn_cursor.specs.Heads.{head_of}
 use Rattle.mn_cursor.specs.Looks.{first_as}
 use Rattle.mn_cursor.specs.Progress.{Progress, rest, refusal_of, refusal_by, IsTold, Moves, GoesOn, SameText}
-use Rattle.mn_decls.specs.Searching.{search_at}
+use Rattle.mn_asking.specs.Searching.{search_at}
 use Rattle.mn_cursor.specs.Sections.{IsRead, ReadsSection}
 use Rattle.mn_decls.specs.TupleLists.{tuplelist_at}
 use Rattle.mn_decls.specs.Variables.{variables_at}

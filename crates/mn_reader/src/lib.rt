@@ -4,7 +4,7 @@
 //! text at the definition's place and with its kind. It makes the tokens, reads the first two of them, and then section
 //! after section in a `Cursor`.
 //!
-//! The crate stands on `mn_language`, which defines the texts and what they stand for, on `mn_decls` and
+//! The crate stands on `mn_language`, which defines the texts and what they stand for, on `mn_decls`, `mn_asking` and
 //! `mn_constraints`, which read the sections, on `mn_cursor`, `mn_grammar` and `mn_lexer`, and on `mn_model`.
 #![tactic(auto)]
 

@@ -11,8 +11,9 @@ ghost use Rattle.mn_language.specs.Texts.{Reads, IsRefused, nothing_stated};
 ghost use Rattle.mn_reader.specs.TextProgress.{ReadsEntries, ReadsOn, ReadsWhole, has_entries, stated_of};
 ghost use Rattle.mn_language.specs.WholeTexts.{sections_at, text_at, version_at};
 
+use mn_asking::search;
 use mn_constraints::constraints;
-use mn_decls::{Cursor, Head, Seen, head_of, search, tuplelist, variables};
+use mn_decls::{Cursor, Head, Seen, head_of, tuplelist, variables};
 use mn_grammar::{Site, Stop};
 use mn_lexer::{TEXT_LIMIT, tokens};
 use mn_model::{Instance, Refusal, TEXT_BYTES, Which};

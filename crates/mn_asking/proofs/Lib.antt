@@ -1,0 +1,4 @@
+pub mod Worked
+pub mod Askable
+pub mod AskingSteps
+pub mod LawfulAsking

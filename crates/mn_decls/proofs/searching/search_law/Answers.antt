@@ -1,5 +1,0 @@
-use Rattle.mn_decls.proofs.Askable.{section_law}
-use Rattle.mn_decls.proofs.searching.search_law.Goals as goal
-
-pub returns : goal.returns
-returns c = section_law
