@@ -10,9 +10,9 @@ use Rattle.mn_model.specs.declared.constraint.Con.TheViews.{sized-More}
 use Rattle.mn_model.specs.declared.constraint.Con.TheVariants as made
 use Rattle.mn_model.specs.declared.constraint.Con.TheBlock.{more_of-Con, end_of-Con}
 use Rattle.mn_model.specs.declared.constraint.Term.{Term}
-use Rattle.mn_printer.specs.Constraints.{constraint_text, children_texts, form_text, gathered_text}
-use Rattle.mn_printer.specs.Lists.{with_commas, braced}
-use Rattle.mn_printer.specs.Names.{term_text}
+use Rattle.mn_canonical.specs.Constraints.{constraint_text, children_texts, form_text, gathered_text}
+use Rattle.mn_canonical.specs.Lists.{with_commas, braced}
+use Rattle.mn_canonical.specs.Names.{term_text}
 use Rattle.mn_printer.specs.Pages.{Written, onto}
 use Rattle.mn_printer.proofs.Joining.{onto_joined}
 

@@ -4,8 +4,9 @@ use Rattle.std.proofs.lemmas.Grind.{common_steps}
 use Rattle.std.specs.List.{AllByRecursion, flat_map}
 use Rattle.mn_model.specs.Problem.{Problem, size_of_dims}
 use Rattle.mn_model.specs.declared.variable.VarId.{VarId}
-use Rattle.mn_printer.specs.Declarations.{nested_text}
-use Rattle.mn_printer.specs.Lists.{bracketed, with_commas, rows_of}
+use Rattle.mn_canonical.specs.Declarations.{nested_text}
+use Rattle.mn_sections.specs.Matrices.{rows_of}
+use Rattle.mn_canonical.specs.Lists.{bracketed, with_commas}
 use Rattle.mn_printer.proofs.Rows.{rows_step}
 use Rattle.mn_printer.proofs.Sizes.{without_first}
 

@@ -4,8 +4,8 @@ use Rattle.std.proofs.lemmas.Grind.{common_steps}
 use Rattle.std.specs.List.{AllByRecursion}
 use Rattle.mn_model.specs.Problem.{Problem, size_of_dims}
 use Rattle.mn_model.specs.declared.variable.VarId.{VarId}
-use Rattle.mn_printer.specs.Declarations.{nested_text}
-use Rattle.mn_printer.specs.Lists.{bracketed, repeated}
+use Rattle.mn_canonical.specs.Declarations.{nested_text}
+use Rattle.mn_canonical.specs.Lists.{bracketed, repeated}
 use Rattle.mn_printer.specs.Pages.{Written, onto}
 use Rattle.mn_printer.proofs.Joining.{onto_joined}
 

@@ -7,7 +7,7 @@ use Rattle.mn_model.specs.Lawful.{AreNumberedFrom}
 use Rattle.mn_model.specs.Problem.{size_of_dims, variables_of, variable_count}
 use Rattle.mn_model.specs.Variable.{number_of}
 use Rattle.mn_model.specs.declared.declaration.Decl.{Decl}
-use Rattle.mn_printer.specs.Names.{numbered_text, place_text}
+use Rattle.mn_canonical.specs.Names.{numbered_text, place_text}
 
 abbrev pub or_else : {X : Type 0} → X → Option X → X
 or_else x None = x

@@ -1,7 +1,8 @@
 -- Rows that are written one behind another.
 use Rattle.std.proofs.Common.{◌≡◌, ℕ, zero, suc, ◌-◌, ◌<◌, List, [], ◌∷◌, ◌++◌, map, take, drop, refl, ap, sym, ◌∙◌, arith}
 use Rattle.std.specs.List.{flat_map}
-use Rattle.mn_printer.specs.Lists.{rows_of, with_commas}
+use Rattle.mn_sections.specs.Matrices.{rows_of}
+use Rattle.mn_canonical.specs.Lists.{with_commas}
 use Rattle.mn_printer.specs.Pages.{Written, onto}
 use Rattle.mn_printer.proofs.Joining.{onto_joined}
 

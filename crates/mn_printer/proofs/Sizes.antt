@@ -4,8 +4,9 @@ use Rattle.std.proofs.Math.Nat.{one-le-mul, mul_assoc, le-mul_of_pos_right, mul-
 use Rattle.std.proofs.lemmas.Grind.{common_steps}
 use Rattle.std.specs.List.{AllByRecursion, flat_map}
 use Rattle.mn_model.specs.Problem.{size_of_dims}
-use Rattle.mn_printer.specs.Lists.{bracketed}
-use Rattle.mn_printer.specs.Names.{indices_of, subscript_text}
+use Rattle.mn_canonical.specs.Lists.{bracketed}
+use Rattle.mn_sections.specs.Matrices.{indices_of}
+use Rattle.mn_canonical.specs.Names.{subscript_text}
 use Rattle.mn_printer.specs.Pages.{Written, onto}
 use Rattle.mn_printer.proofs.Joining.{onto_joined}
 

@@ -3,8 +3,8 @@ use Rattle.std.proofs.Common.{◌≡◌, ℕ, zero, suc, ◌+◌, ◌≤◌, ℤ
 use Rattle.std.proofs.lemmas.Grind.{common_steps}
 use Rattle.std.specs.Fmt.{signed_decimal}
 use Rattle.std.specs.List.{flat_map}
-use Rattle.mn_printer.specs.Declarations.{values_text}
-use Rattle.mn_printer.specs.Lists.{braced}
+use Rattle.mn_canonical.specs.Declarations.{values_text}
+use Rattle.mn_canonical.specs.Lists.{braced}
 use Rattle.mn_printer.specs.Pages.{Written, onto}
 use Rattle.mn_printer.proofs.Joining.{onto_joined}
 use Rattle.mn_printer.proofs.Owners.{some_same}

@@ -2,9 +2,9 @@
 use Rattle.std.specs.Prelude.{ℕ, List}
 use Rattle.std.specs.Fmt.{signed_decimal}
 use Rattle.mn_model.specs.Problem.{Problem}
-use Rattle.mn_printer.specs.Constraints.{numbers_text, range_text}
-use Rattle.mn_printer.specs.Names.{term_text, vector_text}
-use Rattle.mn_printer.specs.Tables.{table_text}
+use Rattle.mn_canonical.specs.Constraints.{numbers_text, range_text}
+use Rattle.mn_canonical.specs.Names.{term_text, vector_text}
+use Rattle.mn_canonical.specs.Tables.{table_text}
 use Rattle.mn_printer.specs.declared.arguments.Argument.{Argument}
 use Rattle.mn_printer.specs.declared.arguments.Argument.TheVariants.{Single, Vector, Number, Numbers, Range, Table}
 

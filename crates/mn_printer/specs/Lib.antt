@@ -1,9 +1,3 @@
 pub mod Pages
-pub mod Lists
-pub mod Names
-pub mod Tables
-pub mod Constraints
 pub mod Arguments
-pub mod Declarations
-pub mod Search
-pub mod Canonical
+pub mod Faults

@@ -1,6 +1,6 @@
 ghost use Rattle.std.specs.Prelude.{◌≡◌, map, OnOk};
 ghost use Rattle.mn_printer.specs.Arguments.{argument_text};
-ghost use Rattle.mn_printer.specs.Constraints.{form_text};
+ghost use Rattle.mn_canonical.specs.Constraints.{form_text};
 ghost use Rattle.mn_printer.specs.Pages.{onto};
 
 use crate::lists::{Printed, bracketed, with_commas};
@@ -36,7 +36,7 @@ impl<'a> Printed for Argument<'a> {
 }
 
 /// Writes a form: its word, and its arguments.
-#[tactic(auto, using(crate::proofs::Joining::onto_joined), unfolding(crate::specs::Constraints::form_text))]
+#[tactic(auto, using(crate::proofs::Joining::onto_joined), unfolding(mn_canonical::specs::Constraints::form_text))]
 pub(crate) fn form(
     page: &mut Page,
     inst: &Instance,

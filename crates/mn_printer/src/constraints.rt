@@ -1,8 +1,8 @@
 ghost use Rattle.std.specs.Prelude.{◌≡◌, ◌++◌, ◌∷◌, [], codes, OnOk};
 ghost use Rattle.std.specs.List.{flat_map};
-ghost use Rattle.mn_printer.specs.Constraints.{children_texts, constraint_text, form_text, gathered_text};
-ghost use Rattle.mn_printer.specs.Lists.{with_commas};
-ghost use Rattle.mn_printer.specs.Names.{term_text};
+ghost use Rattle.mn_canonical.specs.Constraints.{children_texts, constraint_text, form_text, gathered_text};
+ghost use Rattle.mn_canonical.specs.Lists.{with_commas};
+ghost use Rattle.mn_canonical.specs.Names.{term_text};
 ghost use Rattle.mn_printer.specs.Pages.{onto};
 
 use crate::arguments::{Argument, form};
@@ -333,7 +333,7 @@ pub(crate) fn constraint(page: &mut Page, inst: &Instance, con: &Con) -> Result<
 }
 
 #[cycle(printing)]
-#[tactic(auto, using(crate::proofs::Joining::onto_joined), unfolding(crate::specs::Constraints::form_text, crate::specs::Lists::braced))]
+#[tactic(auto, using(crate::proofs::Joining::onto_joined), unfolding(mn_canonical::specs::Constraints::form_text, mn_canonical::specs::Lists::braced))]
 fn gathered(page: &mut Page, inst: &Instance, word: &str, cons: &Cons) -> Result<(), AllocError>
     ensures { OnOk result (page.new ≡ onto page.old (gathered_text word.now (children_texts inst.now cons.now))) }
 {
@@ -372,7 +372,7 @@ fn further_children(page: &mut Page, inst: &Instance, cons: &Cons) -> Result<(),
 }
 
 #[cycle(printing)]
-#[tactic(auto, using(crate::proofs::Joining::onto_joined), unfolding(crate::specs::Constraints::form_text))]
+#[tactic(auto, using(crate::proofs::Joining::onto_joined), unfolding(mn_canonical::specs::Constraints::form_text))]
 fn tied(page: &mut Page, inst: &Instance, word: &str, con: &Con, r: Term) -> Result<(), AllocError>
     ensures { OnOk result (page.new ≡ onto page.old (form_text word.now (constraint_text inst.now con.now ∷ term_text inst.now r ∷ []))) }
 {

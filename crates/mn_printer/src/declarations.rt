@@ -1,10 +1,10 @@
 ghost use Rattle.std.specs.Prelude.{◌≡◌, ◌≤◌, ◌++◌, codes, drop, length, map, replicate, OnOk};
-ghost use Rattle.mn_printer.specs.Lists.{repeated};
+ghost use Rattle.mn_canonical.specs.Lists.{repeated};
 ghost use Rattle.std.specs.Fmt.{signed_decimal};
 ghost use Rattle.std.specs.List.{AllByRecursion, flat_map};
 ghost use Rattle.mn_model.specs.Lawful.{IsLawfulAlias, IsLawfulDecl};
 ghost use Rattle.mn_model.specs.Problem.{domains_of, size_of_dims};
-ghost use Rattle.mn_printer.specs.Declarations.{alias_text, declaration_text, domain_text, ends_text, kind_text, nested_text, values_text};
+ghost use Rattle.mn_canonical.specs.Declarations.{alias_text, declaration_text, domain_text, ends_text, kind_text, nested_text, values_text};
 ghost use Rattle.mn_printer.specs.Pages.{onto};
 
 use crate::lists::{row_and_rest, with_commas};

@@ -2,7 +2,7 @@ ghost use Rattle.std.specs.Prelude.{◌≡◌, ◌++◌, List, ℕ, codes, decim
 ghost use Rattle.std.specs.Fmt.{signed_decimal};
 ghost use Rattle.std.specs.List.{flat_map};
 ghost use Rattle.mn_model.specs.Problem.{Problem};
-ghost use Rattle.mn_printer.specs.Lists.{bracketed, separated, with_commas};
+ghost use Rattle.mn_canonical.specs.Lists.{bracketed, separated, with_commas};
 ghost use Rattle.mn_printer.specs.Pages.{onto};
 
 use crate::page::Page;
@@ -80,7 +80,7 @@ pub(crate) fn with_commas<T: Printed>(
 }
 
 /// Writes items in brackets.
-#[tactic(auto, using(crate::proofs::Joining::onto_joined), unfolding(crate::specs::Lists::bracketed))]
+#[tactic(auto, using(crate::proofs::Joining::onto_joined), unfolding(mn_canonical::specs::Lists::bracketed))]
 pub(crate) fn bracketed<T: Printed>(
     page: &mut Page,
     inst: &Instance,

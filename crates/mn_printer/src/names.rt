@@ -5,7 +5,8 @@ ghost use Rattle.mn_model.specs.Name.{IsName};
 ghost use Rattle.mn_model.specs.Problem.{size_of_dims};
 ghost use Rattle.mn_model.specs.Variable.{number_of};
 ghost use Rattle.mn_model.specs.declared.declaration.Decl.{Decl};
-ghost use Rattle.mn_printer.specs.Names.{indices_of, numbered_text, place_text, subscript_text, term_text, variable_text, vector_text};
+ghost use Rattle.mn_sections.specs.Matrices.{indices_of};
+ghost use Rattle.mn_canonical.specs.Names.{numbered_text, place_text, subscript_text, term_text, variable_text, vector_text};
 ghost use Rattle.mn_printer.specs.Pages.{onto};
 
 use crate::lists::{Printed, bracketed};
@@ -128,7 +129,7 @@ pub(crate) fn subscript(page: &mut Page, inst: &Instance, dims: &[u32]) -> Resul
 }
 
 // Writes the indices of a place in a matrix.
-#[tactic(auto, using(crate::proofs::Joining::onto_joined), unfolding(crate::specs::Lists::bracketed))]
+#[tactic(auto, using(crate::proofs::Joining::onto_joined), unfolding(mn_canonical::specs::Lists::bracketed))]
 fn indices(page: &mut Page, dims: &[u32], place: u32) -> Result<(), AllocError>
     requires shaped { AllByRecursion (λ dim. 1 ≤ dim) dims.now }
     requires few { size_of_dims dims.now ≤ VARIABLES }

@@ -1,7 +1,7 @@
 ghost use Rattle.std.specs.Prelude.{◌≡◌, OnOk};
 ghost use Rattle.std.specs.List.{list_any};
 ghost use Rattle.mn_printer.specs.Pages.{onto};
-ghost use Rattle.mn_printer.specs.Search.{direction_text, directions_text, goal_text, goal_word, order_text, print_text, search_text, variables_text};
+ghost use Rattle.mn_canonical.specs.Search.{direction_text, directions_text, goal_text, goal_word, order_text, print_text, search_text, variables_text};
 
 use crate::lists::{Printed, bracketed};
 use crate::names::variable;

@@ -1,10 +1,12 @@
 ghost use Rattle.std.specs.Prelude.{◌≡◌, ◌<◌, ◌≤◌, ◌++◌, codes, length, IfErr, IfOk, IsErr, OnOk};
 ghost use Rattle.std.specs.List.{flat_map};
 ghost use Rattle.mn_model.specs.declared.limits.TheConstants.{TEXT_BYTES};
-ghost use Rattle.mn_printer.specs.Canonical.{IsFaultOf, canonical_text, constraint_line, constraints_section, search_section, tuples_section, variables_section};
-ghost use Rattle.mn_printer.specs.Declarations.{alias_text, declaration_text};
+ghost use Rattle.mn_language.specs.Texts.{Reads};
+ghost use Rattle.mn_canonical.specs.Canonical.{canonical_text, constraint_line, constraints_section, search_section, tuples_section, variables_section};
+ghost use Rattle.mn_printer.specs.Faults.{IsFaultOf};
+ghost use Rattle.mn_canonical.specs.Declarations.{alias_text, declaration_text};
 ghost use Rattle.mn_printer.specs.Pages.{blank, onto};
-ghost use Rattle.mn_printer.specs.Tables.{tuple_list_text};
+ghost use Rattle.mn_canonical.specs.Tables.{tuple_list_text};
 ghost use Rattle.mn_printer.specs.declared.sections.PrintFault.TheVariants.{NoMemory};
 
 use crate::constraints::constraint;
@@ -12,6 +14,7 @@ use crate::declarations::{alias, declaration};
 use crate::page::Page;
 use crate::search::search;
 use crate::tables::tuple_list;
+use mn_canonical::canonical_texts_are_read;
 use mn_model::Instance;
 use std::alloc::{AllocError, Global};
 use thiserror::Error;
@@ -37,10 +40,16 @@ impl From<AllocError> for PrintFault {
 /// The canonical text of an instance. A text past the limit is counted to its end, but not kept.
 pub fn print(alloc: Global, inst: &Instance) -> Result<Vec<u8>, PrintFault>
     ensures text { IfOk result (λ text. text.items ≡ canonical_text inst.now) }
+
+    // So what is printed is a text of the language, and is read as the instance again.
+    ensures reads { IfOk result (λ text. Reads text.items inst.now) }
+
     ensures fits { IfOk result (λ text. length text.items ≤ TEXT_BYTES) }
     ensures too_long { IfErr result (IsFaultOf (canonical_text inst.now)) }
     ensures long { TEXT_BYTES < length (canonical_text inst.now) → IsErr result }
 {
+    inst.lawful();
+    canonical_texts_are_read();
     let mut page = Page::new(alloc);
     sections(&mut page, inst)?;
     page.finished()

@@ -1,9 +1,11 @@
 ghost use Rattle.std.specs.Prelude.{◌≡◌, ◌<◌, ◌++◌, codes, length, map, slice_get, OnOk};
 ghost use Rattle.std.specs.List.{flat_map};
 ghost use Rattle.mn_model.specs.Lawful.{IsLawfulTuples};
-ghost use Rattle.mn_printer.specs.Lists.{braced, rows_of, with_commas};
+ghost use Rattle.mn_sections.specs.Matrices.{rows_of};
+ghost use Rattle.mn_canonical.specs.Lists.{braced, with_commas};
 ghost use Rattle.mn_printer.specs.Pages.{onto};
-ghost use Rattle.mn_printer.specs.Tables.{list_name, table_text, tuple_count, tuple_line, tuple_list_text, tuple_text, tuples_of};
+ghost use Rattle.mn_sections.specs.Matrices.{tuple_count, tuples_of};
+ghost use Rattle.mn_canonical.specs.Tables.{list_name, table_text, tuple_line, tuple_list_text, tuple_text};
 
 use crate::lists::{row_and_rest, separated, with_commas};
 use crate::names::name;
@@ -34,7 +36,7 @@ fn list_called(page: &mut Page, inst: &Instance, n: usize) -> Result<(), AllocEr
     }
 }
 
-#[tactic(auto, using(crate::proofs::Joining::onto_joined), unfolding(crate::specs::Lists::braced))]
+#[tactic(auto, using(crate::proofs::Joining::onto_joined), unfolding(mn_canonical::specs::Lists::braced))]
 fn literal_table(
     page: &mut Page,
     inst: &Instance,

@@ -1,8 +1,8 @@
 use Rattle.std.proofs.Common.{◌≡◌, ◌+◌, ◌*◌, ◌<◌, ◌≤◌, ◌-◌, ◌/◌, ◌++◌, length, take, drop, get_or, codes, map, ap, sym, ◌∙◌, subst, arith}
 use Rattle.std.specs.List.{AllByRecursion, flat_map}
 use Rattle.mn_model.specs.Problem.{size_of_dims}
-use Rattle.mn_printer.specs.Declarations.{nested_text}
-use Rattle.mn_printer.specs.Lists.{repeated}
+use Rattle.mn_canonical.specs.Declarations.{nested_text}
+use Rattle.mn_canonical.specs.Lists.{repeated}
 use Rattle.mn_printer.specs.Pages.{onto}
 use Rattle.mn_printer.proofs.Joining.{onto_nothing}
 use Rattle.mn_printer.proofs.Nested.{nested_is}

@@ -1,7 +1,7 @@
 use Rattle.std.proofs.Common.{◌≡◌, ◌+◌, ◌*◌, ◌++◌, codes, length, map}
 use Rattle.std.specs.List.{flat_map}
-use Rattle.mn_printer.specs.Declarations.{nested_text}
-use Rattle.mn_printer.specs.Lists.{rows_of}
+use Rattle.mn_canonical.specs.Declarations.{nested_text}
+use Rattle.mn_sections.specs.Matrices.{rows_of}
 use Rattle.mn_printer.specs.Pages.{onto}
 use Rattle.mn_printer.proofs.declarations.+nesting.Given as goal
 

@@ -1,6 +1,6 @@
 use Rattle.std.proofs.Common.{ap}
 use Rattle.mn_model.specs.declared.variable.Kind.{Kind}
-use Rattle.mn_printer.specs.Declarations.{domain_text}
+use Rattle.mn_canonical.specs.Declarations.{domain_text}
 use Rattle.mn_printer.proofs.Joining.{onto_none}
 use Rattle.mn_printer.proofs.declarations.domain.Goals as goal
 

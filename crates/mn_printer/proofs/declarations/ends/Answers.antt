@@ -2,7 +2,7 @@ use Rattle.std.proofs.Common.{◌-◌, ◌++◌, length, codes, slice_get, ap, �
 use Rattle.std.specs.Fmt.{signed_decimal}
 use Rattle.std.proofs.lemmas.Int.{to_z-of_z}
 use Rattle.mn_printer.specs.Pages.{onto}
-use Rattle.mn_printer.specs.Declarations.{end_text}
+use Rattle.mn_canonical.specs.Declarations.{end_text}
 use Rattle.mn_printer.proofs.Separating.{then_onto, twice, thrice}
 use Rattle.mn_printer.proofs.declarations.ends.Goals as goal
 

@@ -1,5 +1,5 @@
 use Rattle.std.proofs.Common.{◌≡◌}
-use Rattle.mn_printer.specs.Lists.{repeated}
+use Rattle.mn_canonical.specs.Lists.{repeated}
 use Rattle.mn_printer.specs.Pages.{onto}
 use Rattle.mn_printer.proofs.declarations.repeat.Given as goal
 

@@ -1,7 +1,7 @@
 use Rattle.std.proofs.Common.{◌≡◌, ℕ, ◌+◌, ◌-◌, ◌<◌, ◌≤◌, arith, ap, ◌∙◌}
 use Rattle.mn_model.specs.Problem.{size_of_dims}
 use Rattle.mn_model.specs.Variable.{number_of}
-use Rattle.mn_printer.specs.Names.{numbered_text}
+use Rattle.mn_canonical.specs.Names.{numbered_text}
 use Rattle.mn_printer.proofs.Owners.{last_begun, begins_before, none_has, passed_there, size_within, numbered_at}
 use Rattle.mn_printer.proofs.names.owner.Goals as goal
 

@@ -1,5 +1,5 @@
 use Rattle.std.proofs.Common.{◌≡◌, ℕ, ◌<◌, List, [], ◌∷◌, length, refl, arith}
-use Rattle.mn_printer.specs.Names.{subscript_text}
+use Rattle.mn_canonical.specs.Names.{subscript_text}
 use Rattle.mn_printer.proofs.Joining.{onto_none}
 use Rattle.mn_printer.proofs.names.subscript.Goals as goal
 

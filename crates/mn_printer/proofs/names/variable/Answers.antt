@@ -1,5 +1,5 @@
 use Rattle.std.proofs.Common.{ap, sym, ◌∙◌}
-use Rattle.mn_printer.specs.Names.{numbered_text}
+use Rattle.mn_canonical.specs.Names.{numbered_text}
 use Rattle.mn_printer.proofs.Joining.{onto_none}
 use Rattle.mn_printer.proofs.names.variable.Goals as goal
 

@@ -1,6 +1,6 @@
 use Rattle.std.proofs.Common.{Bool, ◌++◌, map, codes, ap, sym}
-use Rattle.mn_printer.specs.Lists.{bracketed}
-use Rattle.mn_printer.specs.Search.{line_if, direction_text}
+use Rattle.mn_canonical.specs.Lists.{bracketed}
+use Rattle.mn_canonical.specs.Search.{line_if, direction_text}
 use Rattle.mn_printer.proofs.Joining.{onto_none}
 use Rattle.mn_printer.proofs.search.directions.Goals as goal
 

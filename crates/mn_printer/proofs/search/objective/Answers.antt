@@ -1,6 +1,6 @@
 use Rattle.std.proofs.Common.{Option, ap}
 use Rattle.mn_model.specs.declared.search.Goal.{Goal}
-use Rattle.mn_printer.specs.Search.{goal_text}
+use Rattle.mn_canonical.specs.Search.{goal_text}
 use Rattle.mn_printer.proofs.Joining.{onto_none}
 use Rattle.mn_printer.proofs.search.objective.Goals as goal
 

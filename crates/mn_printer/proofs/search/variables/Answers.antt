@@ -2,7 +2,7 @@ use Rattle.std.proofs.Common.{◌≡◌, List, [], ◌∷◌, length, refl, arit
 use Rattle.std.proofs.lemmas.Bool.Decides.{nat_tests}
 use Rattle.mn_model.specs.Problem.{Problem}
 use Rattle.mn_model.specs.declared.variable.VarId.{VarId}
-use Rattle.mn_printer.specs.Search.{variables_text}
+use Rattle.mn_canonical.specs.Search.{variables_text}
 use Rattle.mn_printer.proofs.Joining.{onto_none}
 use Rattle.mn_printer.proofs.search.variables.Goals as goal
 

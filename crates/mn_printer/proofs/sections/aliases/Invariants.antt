@@ -1,6 +1,6 @@
 use Rattle.std.proofs.Common.{◌≡◌, take}
 use Rattle.std.specs.List.{flat_map}
-use Rattle.mn_printer.specs.Declarations.{alias_text}
+use Rattle.mn_canonical.specs.Declarations.{alias_text}
 use Rattle.mn_printer.specs.Pages.{onto}
 use Rattle.mn_printer.proofs.sections.aliases.Given as goal
 

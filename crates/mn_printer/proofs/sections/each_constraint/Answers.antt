@@ -1,5 +1,5 @@
 use Rattle.std.proofs.Common.{sym, arith}
-use Rattle.mn_printer.specs.Canonical.{constraint_line}
+use Rattle.mn_canonical.specs.Canonical.{constraint_line}
 use Rattle.mn_printer.proofs.Joining.{onto_nothing}
 use Rattle.mn_printer.proofs.Separating.{item_more, twice}
 use Rattle.mn_printer.proofs.sections.each_constraint.Goals as goal

@@ -1,6 +1,6 @@
 use Rattle.std.proofs.Common.{◌≡◌, take}
 use Rattle.std.specs.List.{flat_map}
-use Rattle.mn_printer.specs.Canonical.{constraint_line}
+use Rattle.mn_canonical.specs.Canonical.{constraint_line}
 use Rattle.mn_printer.specs.Pages.{onto}
 use Rattle.mn_printer.proofs.sections.each_constraint.Given as goal
 

@@ -1,5 +1,5 @@
 use Rattle.std.proofs.Common.{sym, arith}
-use Rattle.mn_printer.specs.Tables.{tuple_list_text}
+use Rattle.mn_canonical.specs.Tables.{tuple_list_text}
 use Rattle.mn_printer.proofs.Joining.{onto_nothing}
 use Rattle.mn_printer.proofs.Separating.{item_more}
 use Rattle.mn_printer.proofs.sections.each_tuple_list.Goals as goal

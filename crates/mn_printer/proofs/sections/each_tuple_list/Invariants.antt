@@ -1,6 +1,6 @@
 use Rattle.std.proofs.Common.{◌≡◌, take}
 use Rattle.std.specs.List.{flat_map}
-use Rattle.mn_printer.specs.Tables.{tuple_list_text}
+use Rattle.mn_canonical.specs.Tables.{tuple_list_text}
 use Rattle.mn_printer.specs.Pages.{onto}
 use Rattle.mn_printer.proofs.sections.each_tuple_list.Given as goal
 

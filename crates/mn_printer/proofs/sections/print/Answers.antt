@@ -1,6 +1,9 @@
 use Rattle.std.proofs.Common.{◌≡◌, ℕ, ◌<◌, ◌≤◌, List, Result, Ok, Err, IfOk, IfErr, IsErr, length, ap, sym, ◌∙◌, subst, refl, arith}
 use Rattle.mn_model.specs.declared.limits.TheConstants.{TEXT_BYTES}
-use Rattle.mn_printer.specs.Canonical.{IsFaultOf, canonical_text}
+use Rattle.mn_model.specs.Problem.{Problem}
+use Rattle.mn_language.specs.Texts.{Reads}
+use Rattle.mn_canonical.specs.Canonical.{canonical_text}
+use Rattle.mn_printer.specs.Faults.{IsFaultOf}
 use Rattle.mn_printer.specs.Pages.{Written, onto, blank}
 use Rattle.mn_printer.specs.declared.sections.PrintFault.{PrintFault}
 use Rattle.mn_printer.specs.declared.sections.PrintFault.TheVariants.{TooLong}
@@ -24,8 +27,16 @@ answered items page text e (Err fault) ok err =
     let told : IsFaultOf text (TooLong page.count) = (length_past (length text) page.count (count_is page text e) err.0, count_is page text e) in
     record { is_text = tt; fits = tt; too_long = subst (IsFaultOf text) (sym err.1) told; long = λ many. refl }
 
+-- what is answered is read again, since its text is
+read_again : {V : Type 0} (items : V → List ℕ) (text : List ℕ) (p : Problem) (r : Result V PrintFault) → IfOk r (λ bytes. items bytes ≡ text) → IfOk r (λ bytes. length (items bytes) ≤ TEXT_BYTES)
+    → (length text ≤ TEXT_BYTES → Reads text p) → IfOk r (λ bytes. Reads (items bytes) p)
+read_again items text p (Ok bytes) is fits law = subst (λ t. Reads t p) (sym is) (law (omega (arith, fits, ap length is)))
+read_again items text p (Err fault) is fits law = tt
+
 pub returns : goal.returns
 returns c =
     let page : c.sections.new.page ≡ onto blank (canonical_text c.args.inst.now) = c.in_ok-sections.ensures ∙ ap (λ w. onto w (canonical_text c.args.inst.now)) c.new-page.ensures in
     let all = answered (λ bytes. bytes.items) c.sections.new.page (canonical_text c.args.inst.now) page c.finished.result c.finished.ensures.ok c.finished.ensures.err in
-    record { text = all.is_text; fits = all.fits; too_long = all.too_long; long = all.long }
+    let law = c.canonical_texts_are_read.ensures c.args.inst.now c.lawful.ensures in
+    let again = read_again (λ bytes. bytes.items) (canonical_text c.args.inst.now) c.args.inst.now c.finished.result all.is_text all.fits law in
+    record { text = all.is_text; reads = again; fits = all.fits; too_long = all.too_long; long = all.long }

@@ -1,5 +1,5 @@
 use Rattle.std.proofs.Common.{refl}
-use Rattle.mn_printer.specs.Canonical.{canonical_text}
+use Rattle.mn_canonical.specs.Canonical.{canonical_text}
 use Rattle.mn_printer.proofs.Separating.{then_onto, thrice}
 use Rattle.mn_printer.proofs.sections.sections.Goals as goal
 

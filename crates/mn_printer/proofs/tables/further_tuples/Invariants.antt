@@ -1,8 +1,8 @@
 use Rattle.std.proofs.Common.{◌≡◌, ◌++◌, codes, map}
 use Rattle.std.specs.List.{flat_map}
-use Rattle.mn_printer.specs.Lists.{rows_of}
+use Rattle.mn_sections.specs.Matrices.{rows_of}
 use Rattle.mn_printer.specs.Pages.{onto}
-use Rattle.mn_printer.specs.Tables.{tuple_text}
+use Rattle.mn_canonical.specs.Tables.{tuple_text}
 use Rattle.mn_printer.proofs.tables.further_tuples.Given as goal
 
 -- what is written and what is left to write are the whole

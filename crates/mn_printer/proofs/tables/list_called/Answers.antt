@@ -1,5 +1,5 @@
 use Rattle.std.proofs.Common.{slice_get, ap, sym, ◌∙◌}
-use Rattle.mn_printer.specs.Tables.{list_name}
+use Rattle.mn_canonical.specs.Tables.{list_name}
 use Rattle.mn_printer.proofs.Joining.{onto_none}
 use Rattle.mn_printer.proofs.Owners.{nothing_past}
 use Rattle.mn_printer.proofs.tables.list_called.Goals as goal

@@ -1,7 +1,7 @@
 use Rattle.std.proofs.Common.{◌≡◌, codes, sym, ap, ◌∙◌, arith}
 use Rattle.std.specs.List.{flat_map}
 use Rattle.mn_printer.specs.Pages.{onto}
-use Rattle.mn_printer.specs.Tables.{tuple_line}
+use Rattle.mn_canonical.specs.Tables.{tuple_line}
 use Rattle.mn_printer.proofs.Joining.{onto_nothing}
 use Rattle.mn_printer.proofs.Separating.{twice}
 use Rattle.mn_printer.proofs.Rows.{one_row_more, no_rows}

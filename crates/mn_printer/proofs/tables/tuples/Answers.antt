@@ -1,7 +1,9 @@
 use Rattle.std.proofs.Common.{◌≡◌, ◌-◌, ◌<◌, ◌∷◌, ◌++◌, map, ap, sym, ◌∙◌, arith}
 use Rattle.std.specs.List.{flat_map}
-use Rattle.mn_printer.specs.Lists.{with_commas, rows_of}
-use Rattle.mn_printer.specs.Tables.{tuple_text, tuple_count}
+use Rattle.mn_sections.specs.Matrices.{rows_of}
+use Rattle.mn_canonical.specs.Lists.{with_commas}
+use Rattle.mn_sections.specs.Matrices.{tuple_count}
+use Rattle.mn_canonical.specs.Tables.{tuple_text}
 use Rattle.mn_printer.proofs.Joining.{onto_none}
 use Rattle.mn_printer.proofs.Rows.{no_rows, rows_with_commas}
 use Rattle.mn_printer.proofs.Separating.{then_onto}

@@ -1,19 +1,13 @@
 -- How tuple lists and tables are written.
-use Rattle.std.specs.Prelude.{ℕ, ℤ, ◌/◌, List, [], ◌++◌, length, map, slice_get, codes, decimal, Option, Some, None}
+use Rattle.std.specs.Prelude.{ℕ, ℤ, List, [], ◌++◌, map, slice_get, codes, decimal, Option, Some, None}
 use Rattle.std.specs.Fmt.{signed_decimal}
 use Rattle.std.specs.List.{flat_map}
 use Rattle.mn_model.specs.Problem.{Problem}
 use Rattle.mn_model.specs.declared.constraint.Tab.{Tab}
 use Rattle.mn_model.specs.declared.constraint.Tab.TheVariants.{Named, Here}
 use Rattle.mn_model.specs.declared.declaration.Tuples.{Tuples}
-use Rattle.mn_printer.specs.Lists.{separated, with_commas, braced, rows_of}
-
--- how many tuples of a length there are, and which
-abbrev pub tuple_count : ℕ → List ℤ → ℕ
-tuple_count arity cells = length cells / arity
-
-abbrev pub tuples_of : ℕ → List ℤ → List (List ℤ)
-tuples_of arity cells = rows_of arity (tuple_count arity cells) cells
+use Rattle.mn_sections.specs.Matrices.{tuple_count, tuples_of}
+use Rattle.mn_canonical.specs.Lists.{separated, with_commas, braced}
 
 -- a tuple in a constraint, and one on a line of a tuple list
 abbrev pub tuple_text : List ℤ → List ℕ

@@ -1,16 +1,12 @@
--- The canonical text of an instance, and what printing it may answer.
-use Rattle.std.specs.Prelude.{◌≡◌, ℕ, ◌<◌, min, List, ◌++◌, length, codes}
+-- The canonical text of an instance.
+use Rattle.std.specs.Prelude.{ℕ, List, ◌++◌, codes}
 use Rattle.std.specs.List.{flat_map}
 use Rattle.mn_model.specs.Problem.{Problem}
 use Rattle.mn_model.specs.declared.constraint.Con.{Con}
-use Rattle.mn_model.specs.declared.limits.TheConstants.{TEXT_BYTES}
-use Rattle.mn_printer.specs.Constraints.{constraint_text}
-use Rattle.mn_printer.specs.Declarations.{declaration_text, alias_text}
-use Rattle.mn_printer.specs.Pages.{greatest}
-use Rattle.mn_printer.specs.Search.{search_text}
-use Rattle.mn_printer.specs.Tables.{tuple_list_text}
-use Rattle.mn_printer.specs.declared.sections.PrintFault.{PrintFault}
-use Rattle.mn_printer.specs.declared.sections.PrintFault.TheVariants.{TooLong, NoMemory}
+use Rattle.mn_canonical.specs.Constraints.{constraint_text}
+use Rattle.mn_canonical.specs.Declarations.{declaration_text, alias_text}
+use Rattle.mn_canonical.specs.Search.{search_text}
+use Rattle.mn_canonical.specs.Tables.{tuple_list_text}
 
 -- the sections, each behind its head
 abbrev pub variables_section : Problem → List ℕ
@@ -32,8 +28,3 @@ constraints_section p = codes "**CONSTRAINTS**\n" ++ flat_map (constraint_line p
 -- the text
 unfoldable pub canonical_text : Problem → List ℕ
 canonical_text p = codes "MINION 3\n" ++ variables_section p ++ tuples_section p ++ search_section p ++ constraints_section p ++ codes "**EOF**\n"
-
--- a text past the limit has no page: the fault tells its length, up to the greatest number
-abbrev pub IsFaultOf : List ℕ → PrintFault → Type 0
-IsFaultOf text (TooLong n) = (TEXT_BYTES < length text) × (n ≡ min (length text) greatest)
-IsFaultOf text NoMemory = Unit {0}

@@ -1,5 +1,5 @@
 -- How a variable is written: by the name that it is declared with, and its place in its matrix.
-use Rattle.std.specs.Prelude.{ℕ, ◌-◌, ◌/◌, ◌%◌, nat_lt, if◌then◌else◌, List, [], ◌∷◌, ◌++◌, map, codes, decimal}
+use Rattle.std.specs.Prelude.{ℕ, ◌-◌, nat_lt, if◌then◌else◌, List, [], ◌∷◌, ◌++◌, map, codes, decimal}
 use Rattle.std.specs.Fmt.{signed_decimal}
 use Rattle.mn_model.specs.Problem.{Problem, size_of_dims}
 use Rattle.mn_model.specs.Variable.{number_of}
@@ -7,12 +7,8 @@ use Rattle.mn_model.specs.declared.constraint.Term.{Term}
 use Rattle.mn_model.specs.declared.constraint.Term.TheVariants.{Var, Const, Not}
 use Rattle.mn_model.specs.declared.declaration.Decl.{Decl}
 use Rattle.mn_model.specs.declared.variable.VarId.{VarId}
-use Rattle.mn_printer.specs.Lists.{bracketed}
-
--- the indices of a place in a matrix of these dimensions, the last index running fastest
-abbrev pub indices_of : List ℕ → ℕ → List ℕ
-indices_of [] place = []
-indices_of (dim ∷ dims) place = (place / size_of_dims dims) ∷ indices_of dims (place % size_of_dims dims)
+use Rattle.mn_sections.specs.Matrices.{indices_of}
+use Rattle.mn_canonical.specs.Lists.{bracketed}
 
 -- what stands behind a name: dimensions or indices, if there are any
 abbrev pub subscript_text : List ℕ → List ℕ

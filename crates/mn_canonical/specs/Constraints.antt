@@ -6,9 +6,9 @@ use Rattle.mn_model.specs.declared.constraint.Con.{Con}
 use Rattle.mn_model.specs.declared.constraint.Cons.{Cons}
 use Rattle.mn_model.specs.declared.constraint.Con.TheBlock.{more_of-Con, more_of-Cons}
 use Rattle.mn_model.specs.declared.constraint.Con.TheVariants as con
-use Rattle.mn_printer.specs.Lists.{with_commas, bracketed, braced}
-use Rattle.mn_printer.specs.Names.{term_text, vector_text}
-use Rattle.mn_printer.specs.Tables.{table_text}
+use Rattle.mn_canonical.specs.Lists.{with_commas, bracketed, braced}
+use Rattle.mn_canonical.specs.Names.{term_text, vector_text}
+use Rattle.mn_canonical.specs.Tables.{table_text}
 
 -- a list of numbers
 abbrev pub numbers_text : List ℤ → List ℕ

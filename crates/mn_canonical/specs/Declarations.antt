@@ -7,8 +7,9 @@ use Rattle.mn_model.specs.declared.declaration.Decl.{Decl}
 use Rattle.mn_model.specs.declared.variable.Kind.{Kind}
 use Rattle.mn_model.specs.declared.variable.Kind.TheVariants.{Binary, Bounded, Sparse, Discrete}
 use Rattle.mn_model.specs.declared.variable.VarId.{VarId}
-use Rattle.mn_printer.specs.Lists.{with_commas, bracketed, braced, rows_of}
-use Rattle.mn_printer.specs.Names.{subscript_text, variable_text}
+use Rattle.mn_sections.specs.Matrices.{rows_of}
+use Rattle.mn_canonical.specs.Lists.{with_commas, bracketed, braced}
+use Rattle.mn_canonical.specs.Names.{subscript_text, variable_text}
 
 -- the word of a kind
 abbrev pub kind_text : Kind → List ℕ

@@ -7,8 +7,8 @@ use Rattle.mn_model.specs.declared.search.Order.{Order}
 use Rattle.mn_model.specs.declared.search.Print.{Print}
 use Rattle.mn_model.specs.declared.search.Print.TheVariants.{All, Nothing, Rows}
 use Rattle.mn_model.specs.declared.variable.VarId.{VarId}
-use Rattle.mn_printer.specs.Lists.{bracketed}
-use Rattle.mn_printer.specs.Names.{variable_text, vector_text}
+use Rattle.mn_canonical.specs.Lists.{bracketed}
+use Rattle.mn_canonical.specs.Names.{variable_text, vector_text}
 
 -- a line, if there is something to say
 abbrev pub line_if : Bool → List ℕ → List ℕ

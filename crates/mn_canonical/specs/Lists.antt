@@ -1,5 +1,5 @@
--- Texts one behind another, and rows of a list.
-use Rattle.std.specs.Prelude.{ℕ, zero, suc, List, [], ◌∷◌, ◌++◌, take, drop, codes}
+-- Texts one behind another.
+use Rattle.std.specs.Prelude.{ℕ, zero, suc, List, [], ◌∷◌, ◌++◌, codes}
 use Rattle.std.specs.List.{flat_map}
 
 -- the texts in order, with a separator between each two
@@ -16,11 +16,6 @@ bracketed xs = codes "[" ++ with_commas xs ++ codes "]"
 
 unfoldable pub braced : List (List ℕ) → List ℕ
 braced xs = codes "{" ++ with_commas xs ++ codes "}"
-
--- so many rows of a list, each of the same size
-abbrev pub rows_of : {X : Type 0} → ℕ → ℕ → List X → List (List X)
-rows_of size zero xs = []
-rows_of size (suc count) xs = take size xs ∷ rows_of size count (drop size xs)
 
 -- the same bytes so many times
 abbrev pub repeated : ℕ → List ℕ → List ℕ

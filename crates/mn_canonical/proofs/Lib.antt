@@ -1,0 +1,15 @@
+pub mod Saying
+pub mod Tokens
+pub mod Listing
+pub mod Names
+pub mod Numbers
+pub mod Rows
+pub mod References
+pub mod Variables
+pub mod Aliases
+pub mod Tuples
+pub mod Searching
+pub mod Forms
+pub mod Constraints
+pub mod Lengths
+pub mod Whole

@@ -1,0 +1,4 @@
+pub mod Matrices
+pub mod Trees
+pub mod Constraining
+pub mod Law

@@ -1,0 +1,6 @@
+ghost use Rattle.mn_sections.specs.Law.{InstancesAreSaid};
+
+/// The sections of a lawful instance are lawful, and say no more and no less than the instance.
+pub fn instances_are_said()
+    ensures { InstancesAreSaid }
+{}
