@@ -13,7 +13,7 @@ use Rattle.mn_driver.specs.Owes.{IsDumpStatus, Yields, IsModelStatus, StoppedAt}
 use Rattle.mn_driver.specs.Report.{memory_line, read_line, usage_line}
 use Rattle.mn_driver.specs.Runs.{AddsLine, Tells, HoldsModel, HoldsRefused, IsAbsent, IsTheModel, IsTheRefused}
 use Rattle.mn_driver.specs.Words.{Asked, asked, asked_unless}
-use Rattle.mn_driver.specs.Written.{CountsSolutions, IsCutOff, IsFrontOfReport, WritesReport}
+use Rattle.mn_driver.specs.Written.{CountsSolutions, CountsSomeVisits, IsCutOff, IsFrontOfReport, WritesReport}
 use Rattle.mn_driver.specs.declared.load.Unloaded.{Unloaded}
 use Rattle.mn_driver.specs.declared.load.Unloaded.TheVariants as unloads
 use Rattle.mn_driver.specs.declared.status.Counts.{Counts}
@@ -152,12 +152,12 @@ module _ (old new : Option (List ℕ)) (before after : ℕ) where
 
   cut_of : (redump shown : Bool) (p : Problem) (n : Counts) → Answers old new before after redump shown p WriteFault n → HasRisen before after × IsCutOff redump shown p old new n
   cut_of true shown p n (none, risen, part) = (risen, (none, part))
-  cut_of false shown p n (risen, some, all) = (risen, (some, all))
+  cut_of false shown p n (risen, some, next, all) = (risen, (some, next, all))
 
   stopped_of : (redump shown : Bool) (p : Problem) (n : Counts) → Answers old new before after redump shown p NoMemory n
-      → (done : List ℕ) × (((done ≡ []) × HasNone n) ⊎ ((redump ≡ false) × IsFrontOfReport shown p done × CountsSolutions shown p done n.solutions)) × AddsLine old new before after done memory_line
+      → (done : List ℕ) × (((done ≡ []) × HasNone n) ⊎ ((redump ≡ false) × IsFrontOfReport shown p done × CountsSolutions shown p done n.solutions × CountsSomeVisits p n.nodes)) × AddsLine old new before after done memory_line
   stopped_of true shown p n (none, line) = ([], inl (refl, none), line)
-  stopped_of false shown p n (done, front, few, line) = (done, inr (refl, front, few), line)
+  stopped_of false shown p n (done, front, few, made, line) = (done, inr (refl, front, few, made), line)
 
   never_misused : (redump shown : Bool) (p : Problem) (rule : Rule) (n : Counts) → Answers old new before after redump shown p (Usage rule) n → ⊥
   never_misused true shown p rule n h = h
@@ -311,10 +311,10 @@ module _ (told : Option FileMap) (words : List (List ℕ)) (unread read : List �
       came_so None h = absurd h
       came_so (Some a) (inl found) = by_done (stopped_of old new before after a.redump a.print_sols found.problem n found.answers)
         where
-          by_done : (done : List ℕ) × (((done ≡ []) × HasNone n) ⊎ ((a.redump ≡ false) × IsFrontOfReport a.print_sols found.problem done × CountsSolutions a.print_sols found.problem done n.solutions)) × AddsLine old new before after done memory_line
+          by_done : (done : List ℕ) × (((done ≡ []) × HasNone n) ⊎ ((a.redump ≡ false) × IsFrontOfReport a.print_sols found.problem done × CountsSolutions a.print_sols found.problem done n.solutions × CountsSomeVisits found.problem n.nodes)) × AddsLine old new before after done memory_line
               → (done : List ℕ) × StoppedAt told (Some a) done n × AddsLine old new before after done memory_line
           by_done (done, inl nothing, line) = (done, inl nothing, line)
-          by_done (done, inr (is, front, few), line) = (done, inr (is, found.problem, found.is, front, few), line)
+          by_done (done, inr (is, front, few, made), line) = (done, inr (is, found.problem, found.is, front, few, made), line)
       came_so (Some a) (inr lost) = ([], inl (refl, lost.none), no_memory_line old new before after lost.why lost.refuses)
 
       by : Explains told words unread read old new before after status n → (done : List ℕ) × StoppedAt told (asked words) done n × AddsLine old new before after done memory_line

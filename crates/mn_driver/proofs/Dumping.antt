@@ -4,7 +4,8 @@ use Rattle.mn_model.specs.Problem.{Problem}
 use Rattle.mn_model.specs.declared.limits.TheConstants.{TEXT_BYTES}
 use Rattle.mn_outside.specs.Content.{WritesPart, with_bytes}
 use Rattle.mn_outside.specs.Faults.{HasRisen}
-use Rattle.mn_printer.specs.Canonical.{IsFaultOf, canonical_text}
+use Rattle.mn_canonical.specs.Canonical.{canonical_text}
+use Rattle.mn_printer.specs.Faults.{IsFaultOf}
 use Rattle.mn_printer.specs.declared.sections.PrintFault.{PrintFault}
 use Rattle.mn_printer.specs.declared.sections.PrintFault.TheVariants as prints
 use Rattle.mn_driver.specs.Counting.{HasNone}

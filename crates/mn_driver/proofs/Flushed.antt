@@ -12,14 +12,14 @@ use Rattle.mn_report.specs.Lines.{refused_text, summary_text}
 use Rattle.mn_report.specs.declared.lines.Outcome.TheVariants as outcome
 use Rattle.mn_driver.specs.Runs.{AddsLine}
 use Rattle.mn_driver.specs.Words.{Asked, asked}
-use Rattle.mn_driver.specs.Written.{WritesReport, WritesSome}
+use Rattle.mn_driver.specs.Written.{CountsToNext, WritesReport, WritesSome}
 use Rattle.mn_driver.specs.declared.load.Unloaded.{Unloaded}
 use Rattle.mn_driver.specs.declared.load.Unloaded.TheVariants as unloads
 use Rattle.mn_driver.specs.declared.status.Counts.{Counts}
 use Rattle.mn_driver.specs.declared.status.Status.{Status}
 use Rattle.mn_driver.specs.declared.status.Status.TheVariants.{Complete, Printed, Refused, Usage, ReadFault, WriteFault, DumpTooLong, NoMemory}
-use Rattle.mn_driver.proofs.Solving.{all_counted}
-use Rattle.mn_printer.specs.Canonical.{canonical_text}
+use Rattle.mn_driver.proofs.Solving.{all_counted, all_to_next}
+use Rattle.mn_canonical.specs.Canonical.{canonical_text}
 
 -- the whole report is a report in part
 whole_is_some : (shown : Bool) (p : Problem) (old new : Option (List ℕ)) (counts : Counts) → WritesReport shown p old new counts → WritesSome shown p old new counts
@@ -30,6 +30,12 @@ whole_is_some shown p old new counts whole = record {
   counted = all_counted shown p (summary_text (capped (length (listed p))) (capped whole.all.visits) outcome.Complete) counts.solutions whole.all.solutions;
 }
 
+-- and all visits were counted
+whole_to_next : (shown : Bool) (p : Problem) (old new : Option (List ℕ)) (counts : Counts) → shown ≡ true → WritesReport shown p old new counts → CountsToNext p old new counts
+whole_to_next false p old new counts printed whole = cc
+whole_to_next true p old new counts printed whole =
+    all_to_next p old new counts whole.all.visits (summary_text (capped (length (listed p))) (capped whole.all.visits) outcome.Complete) whole.all.has whole.written whole.all.solutions whole.all.nodes
+
 module _ (old new : Option (List ℕ)) (before after later : ℕ) (kept : before ≤ after) (rest : after ≤ later) where
   line_later : (done line : List ℕ) → AddsLine old new before after done line → AddsLine old new before later done line
   line_later done line (inl is) = inl is
@@ -37,8 +43,8 @@ module _ (old new : Option (List ℕ)) (before after later : ℕ) (kept : before
 
   solves_later : (shown : Bool) (p : Problem) (status : Status) (counts : Counts) → Solves old new before after shown p status counts → Solves old new before later shown p status counts
   solves_later shown p Complete counts solves = solves
-  solves_later shown p WriteFault counts (risen, some, all) = (HasRisen-after before after later risen rest, some, all)
-  solves_later shown p NoMemory counts (done, front, few, line) = (done, front, few, line_later done memory_line line)
+  solves_later shown p WriteFault counts (risen, some, next, all) = (HasRisen-after before after later risen rest, some, next, all)
+  solves_later shown p NoMemory counts (done, front, few, made, line) = (done, front, few, made, line_later done memory_line line)
   solves_later shown p (Refused why) counts solves = solves
   solves_later shown p (Usage why) counts solves = solves
   solves_later shown p ReadFault counts solves = solves
@@ -46,7 +52,7 @@ module _ (old new : Option (List ℕ)) (before after later : ℕ) (kept : before
   solves_later shown p (DumpTooLong n) counts solves = solves
 
   solves_failed : HasRisen after later → (shown : Bool) (p : Problem) (status : Status) (counts : Counts) → Solves old new before after shown p status counts → Solves old new before later shown p (unflushed status) counts
-  solves_failed risen shown p Complete counts solves = (HasRisen-before before after later kept risen, whole_is_some shown p old new counts solves, λ _. solves.all)
+  solves_failed risen shown p Complete counts solves = (HasRisen-before before after later kept risen, whole_is_some shown p old new counts solves, λ printed. whole_to_next shown p old new counts printed solves, λ _. solves.all)
   solves_failed risen shown p WriteFault counts solves = solves_later shown p WriteFault counts solves
   solves_failed risen shown p NoMemory counts solves = solves_later shown p NoMemory counts solves
   solves_failed risen shown p (Refused why) counts solves = solves

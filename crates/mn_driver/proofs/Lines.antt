@@ -6,7 +6,7 @@ use Rattle.mn_outside.specs.Faults.{HasRisen}
 use Rattle.mn_outside.specs.Laws.{HasRisen-before, with_bytes-with_bytes}
 use Rattle.mn_driver.specs.Report.{memory_line}
 use Rattle.mn_driver.specs.Runs.{AddsLine}
-use Rattle.mn_driver.specs.Written.{CountsSolutions, IsFrontOfReport, WritesSome}
+use Rattle.mn_driver.specs.Written.{CountsSolutions, CountsSomeVisits, IsFrontOfReport, WritesSome}
 use Rattle.mn_driver.specs.declared.status.Counts.{Counts}
 use Rattle.mn_driver.proofs.Solving.{part_is_front}
 
@@ -22,7 +22,7 @@ said_behind old mid new before middle after done line first kept (inr (risen, (p
     inr (HasRisen-before before middle after kept risen, (part, front, is ∙ (ap (λ told. with_bytes told part) first ∙ with_bytes-with_bytes old done part)))
 
 -- so is the line of want of memory
-pub memory_said : (shown : Bool) (p : Problem) (old mid new : Option (List ℕ)) (before middle after : ℕ) (counts : Counts) → WritesSome shown p old mid counts → before ≤ middle → AddsLine mid new middle after [] memory_line
-    → (done : List ℕ) × IsFrontOfReport shown p done × CountsSolutions shown p done counts.solutions × AddsLine old new before after done memory_line
-memory_said shown p old mid new before middle after counts some kept line =
-    (some.bytes, some.front, some.counted, said_behind old mid new before middle after some.bytes memory_line some.written kept line)
+pub memory_said : (shown : Bool) (p : Problem) (old mid new : Option (List ℕ)) (before middle after : ℕ) (counts : Counts) → WritesSome shown p old mid counts → CountsSomeVisits p counts.nodes → before ≤ middle → AddsLine mid new middle after [] memory_line
+    → (done : List ℕ) × IsFrontOfReport shown p done × CountsSolutions shown p done counts.solutions × CountsSomeVisits p counts.nodes × AddsLine old new before after done memory_line
+memory_said shown p old mid new before middle after counts some made kept line =
+    (some.bytes, some.front, some.counted, made, said_behind old mid new before middle after some.bytes memory_line some.written kept line)

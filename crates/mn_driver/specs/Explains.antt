@@ -8,14 +8,14 @@ use Rattle.mn_outside.specs.Content.{FileMap, with_bytes}
 use Rattle.mn_outside.specs.Faults.{HasRisen}
 use Rattle.mn_driver.specs.Counting.{HasNone}
 use Rattle.mn_driver.specs.Report.{capped, dump_line, memory_line, read_line, usage_line}
-use Rattle.mn_printer.specs.Canonical.{canonical_text}
+use Rattle.mn_canonical.specs.Canonical.{canonical_text}
 use Rattle.mn_printer.specs.declared.sections.PrintFault.{PrintFault}
 use Rattle.mn_printer.specs.declared.sections.PrintFault.TheVariants as prints
 use Rattle.mn_report.specs.Lines.{refused_text}
 use Rattle.mn_driver.specs.Loads.{Unloads}
 use Rattle.mn_driver.specs.Runs.{AddsLine, IsTheModel}
 use Rattle.mn_driver.specs.Words.{Asked, asked}
-use Rattle.mn_driver.specs.Written.{CountsAll, CountsSolutions, IsFrontOf, IsFrontOfReport, WritesReport, WritesSome}
+use Rattle.mn_driver.specs.Written.{CountsAll, CountsSolutions, CountsSomeVisits, CountsToNext, IsFrontOf, IsFrontOfReport, WritesReport, WritesSome}
 use Rattle.mn_driver.specs.declared.load.Unloaded.{Unloaded}
 use Rattle.mn_driver.specs.declared.load.Unloaded.TheVariants as unloads
 use Rattle.mn_driver.specs.declared.status.Counts.{Counts}
@@ -27,8 +27,8 @@ module _ (old new : Option (List ℕ)) (before after : ℕ) where
   -- what a run that came to an instance wrote of its report, by its status and its counts
   abbrev pub Solves : Bool → Problem → Status → Counts → Type 0
   Solves shown p Complete counts = WritesReport shown p old new counts
-  Solves shown p WriteFault counts = HasRisen before after × WritesSome shown p old new counts × (shown ≡ false → CountsAll p counts)
-  Solves shown p NoMemory counts = (done : List ℕ) × IsFrontOfReport shown p done × CountsSolutions shown p done counts.solutions × AddsLine old new before after done memory_line
+  Solves shown p WriteFault counts = HasRisen before after × WritesSome shown p old new counts × (shown ≡ true → CountsToNext p old new counts) × (shown ≡ false → CountsAll p counts)
+  Solves shown p NoMemory counts = (done : List ℕ) × IsFrontOfReport shown p done × CountsSolutions shown p done counts.solutions × CountsSomeVisits p counts.nodes × AddsLine old new before after done memory_line
   Solves shown p _ counts = ⊥
 
   -- what a run wrote that came to an instance whose text was asked for

@@ -5,7 +5,7 @@ use Rattle.mn_outside.specs.Content.{FileMap}
 use Rattle.mn_driver.specs.Counting.{HasNone}
 use Rattle.mn_driver.specs.Runs.{IsTheModel}
 use Rattle.mn_driver.specs.Words.{Asked}
-use Rattle.mn_driver.specs.Written.{CountsSolutions, IsFrontOfReport}
+use Rattle.mn_driver.specs.Written.{CountsSolutions, CountsSomeVisits, IsFrontOfReport}
 use Rattle.mn_driver.specs.declared.status.Counts.{Counts}
 use Rattle.mn_driver.specs.declared.status.Status.{Status}
 use Rattle.mn_driver.specs.declared.status.Status.TheVariants.{Complete, Printed, WriteFault, DumpTooLong, ReadFault, NoMemory}
@@ -23,8 +23,9 @@ abbrev pub IsModelStatus : Bool → Status → Type 0
 IsModelStatus true status = IsDumpStatus status ⊎ (status ≡ WriteFault) ⊎ (status ≡ ReadFault) ⊎ (status ≡ NoMemory)
 IsModelStatus false status = (status ≡ Complete) ⊎ (status ≡ WriteFault) ⊎ (status ≡ ReadFault) ⊎ (status ≡ NoMemory)
 
--- What was written before memory ran out: nothing, or a front of the report, and so many solutions were counted.
+-- What was written before memory ran out: nothing, or a front of the report, and so many solutions were counted, and no more
+-- visits than there are.
 abbrev pub StoppedAt : Option FileMap → Option Asked → List ℕ → Counts → Type 0
 StoppedAt told asks done counts =
     ((done ≡ []) × HasNone counts)
-    ⊎ IsSomeAnd asks (λ a. (a.redump ≡ false) × (p : Problem) × IsTheModel told a.model p × IsFrontOfReport a.print_sols p done × CountsSolutions a.print_sols p done counts.solutions)
+    ⊎ IsSomeAnd asks (λ a. (a.redump ≡ false) × (p : Problem) × IsTheModel told a.model p × IsFrontOfReport a.print_sols p done × CountsSolutions a.print_sols p done counts.solutions × CountsSomeVisits p counts.nodes)

@@ -281,7 +281,8 @@ pub fn run<F: Files, O: Sink>(
         × Dumps (O.content out.old) (O.content out.new) (O.faults out.old) (O.faults out.new) p (Status.DumpTooLong n) (counts_of result)) }
 
     // A fault of the output: its count rose, and a front of what is asked for stands. Of a report as many solutions are
-    // counted as have their blocks whole, or all where they aren't printed.
+    // counted as have their blocks whole, and the visits up to the one that comes to the next; or all where they aren't
+    // printed.
     ensures write_fault { result.status ≡ Status.WriteFault → IsSomeAnd (asked (map string_bytes words.now.items)) (λ a. (p : Problem)
         × IsTheModel (F.content files.old) a.model p × HasRisen (O.faults out.old) (O.faults out.new)
         × IsCutOff a.redump a.print_sols p (O.content out.old) (O.content out.new) (counts_of result)) }
@@ -291,7 +292,8 @@ pub fn run<F: Files, O: Sink>(
         HasRisen (F.reading files.old a.model) (F.reading files.new a.model) × HasNone (counts_of result)
         × AddsLine (O.content out.old) (O.content out.new) (O.faults out.old) (O.faults out.new) [] read_line) }
 
-    // Want of memory: a front of the report, with so many solutions counted, and behind it the fault's line.
+    // Want of memory: a front of the report, with so many solutions counted and no more visits than there are, and behind it
+    // the fault's line.
     ensures no_memory { result.status ≡ Status.NoMemory → (done : List ℕ)
         × StoppedAt (F.content files.old) (asked (map string_bytes words.now.items)) done (counts_of result)
         × AddsLine (O.content out.old) (O.content out.new) (O.faults out.old) (O.faults out.new) done memory_line }

@@ -28,6 +28,9 @@ const HOLE: &[u8] =
 const INTERVALS: &[u8] =
     b"MINION 3\n**VARIABLES**\nDISCRETE x {0..9}\n**CONSTRAINTS**\nw-inintervalset(x,[7,8,2,3])\n**EOF**\n";
 
+const BEST: &[u8] =
+    b"MINION 3\n**VARIABLES**\nBOOL x\nBOOL y\n**SEARCH**\nMAXIMISING x\n**CONSTRAINTS**\n**EOF**\n";
+
 const TWICE: &[u8] = b"MINION 3\n**VARIABLES**\nBOOL x\nBOOL x\n**EOF**\n";
 
 const ALL: &[&str] = &["-findallsols", "m"];
@@ -44,7 +47,7 @@ struct Row {
     written: &'static [u8],
 }
 
-const ROWS: [Row; 27] = [
+const ROWS: [Row; 31] = [
     Row {
         words: ALL,
         text: TWO,
@@ -147,11 +150,47 @@ const ROWS: [Row; 27] = [
     Row {
         words: ALL,
         text: TWO,
+        fail: 1,
+        status: 4,
+        solutions: 0,
+        nodes: 3,
+        written: b"",
+    },
+    Row {
+        words: ALL,
+        text: TWO,
         fail: 2,
         status: 4,
         solutions: 1,
         nodes: 4,
         written: b"Sol: 0 0\nSolution Number: 1\n",
+    },
+    Row {
+        words: ALL,
+        text: TWO,
+        fail: 3,
+        status: 4,
+        solutions: 2,
+        nodes: 6,
+        written: b"Sol: 0 0\nSolution Number: 1\nSol: 0 1\nSolution Number: 2\n",
+    },
+    Row {
+        words: ALL,
+        text: TWO,
+        fail: 4,
+        status: 4,
+        solutions: 3,
+        nodes: 7,
+        written: b"Sol: 0 0\nSolution Number: 1\nSol: 0 1\nSolution Number: 2\nSol: 1 0\nSolution Number: 3\n",
+    },
+    Row {
+        words: ALL,
+        text: BEST,
+        fail: 2,
+        status: 4,
+        solutions: 1,
+        nodes: 6,
+        written: b"Sol: 0 0\nObjective: 0\nSolution Number: 1\n",
     },
     Row {
         words: ALL,
