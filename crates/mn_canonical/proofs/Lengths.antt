@@ -18,7 +18,7 @@ use Rattle.mn_canonical.specs.Declarations.{declaration_text, nested_text, alias
 use Rattle.mn_canonical.specs.Lists.{with_commas, bracketed}
 use Rattle.mn_canonical.specs.Names.{subscript_text}
 use Rattle.mn_canonical.proofs.Listing.{comma_before}
-use Rattle.mn_canonical.proofs.References.{variable_count-cons}
+use Rattle.mn_sections.proofs.References.{variable_count-cons}
 use Rattle.mn_canonical.proofs.Rows.{all_map}
 
 -- 1. A list in brackets is longer than each of its entries, and has a byte for each

@@ -1,14 +1,13 @@
 -- What variables, terms and vectors say.
-use Rattle.std.proofs.Common.{◌≡◌, ℕ, ◌+◌, ◌-◌, ◌<◌, ◌≤◌, true, false, pos, nat_lt, List, [], ◌∷◌, map, replicate, ap, ◌∙◌, ⊎_elim, decimal, arith, length-append}
+use Rattle.std.proofs.Common.{ℕ, ◌-◌, ◌<◌, ◌≤◌, true, false, pos, nat_lt, List, [], ◌∷◌, map, ⊎_elim, decimal, arith}
 use Rattle.std.specs.List.{AllByRecursion}
 use Rattle.std.proofs.lemmas.Bool.{cases_Bool}
 use Rattle.std.proofs.lemmas.Bool.Decides.{nat_tests}
-use Rattle.std.proofs.lemmas.List.{length-replicate}
 use Rattle.mn_lexer.specs.declared.TheConstants.{NUMBER_LIMIT}
 use Rattle.mn_lexer.specs.declared.marks.Mark.TheVariants.{Bang}
 use Rattle.mn_model.specs.Lawful.{IsLawful, IsLawfulDecl, IsLawfulTerm, IsKnown}
 use Rattle.mn_model.specs.Name.{IsName}
-use Rattle.mn_model.specs.Problem.{Problem, size_of_dims, variables_of, variable_count, domains_of}
+use Rattle.mn_model.specs.Problem.{Problem, size_of_dims, variable_count, domains_of}
 use Rattle.mn_model.specs.Variable.{number_of}
 use Rattle.mn_model.proofs.Variables.{length-domains_of}
 use Rattle.mn_model.specs.declared.constraint.Term.{Term}
@@ -18,6 +17,7 @@ use Rattle.mn_model.specs.declared.variable.VarId.{VarId}
 use Rattle.mn_references.specs.Entries.{spell_entry, spell_vector, spell_row}
 use Rattle.mn_references.specs.References.{only, spell_sub, spell_subs, spell_ref}
 use Rattle.mn_pieces.specs.Printed.{NumbersAreRead}
+use Rattle.mn_sections.proofs.References.{variable_count-cons}
 use Rattle.mn_sections.specs.Matrices.{indices_of}
 use Rattle.mn_sections.specs.Trees.{subs_of, place_ref, numbered_ref, ref_of, entry_of, vector_of, row_of}
 use Rattle.mn_canonical.specs.Names.{subscript_text, place_text, numbered_text, variable_text, term_text, vector_text}
@@ -27,9 +27,6 @@ use Rattle.mn_canonical.proofs.Listing.{AllSaid, said_map, says_bracketed}
 use Rattle.mn_canonical.proofs.Names.{says_name}
 use Rattle.mn_canonical.proofs.Numbers.{says_value, says_count}
 use Rattle.mn_canonical.proofs.Rows.{indices_within}
-
-pub variable_count-cons : (d : Decl) (decls : List Decl) → variable_count (d ∷ decls) ≡ size_of_dims d.dims + variable_count decls
-variable_count-cons d decls = length-append (replicate (size_of_dims d.dims) d) (variables_of decls) ∙ ap (λ k. k + variable_count decls) (length-replicate (size_of_dims d.dims) d)
 
 module _ (read : NumbersAreRead) where
   says_index : (i : ℕ) → i ≤ NUMBER_LIMIT → Says false (decimal i) (spell_sub (only (pos i))) true

@@ -1,7 +1,6 @@
 -- The section of variables of an instance, as it is read.
-use Rattle.std.proofs.Common.{◌≡◌, ◌+◌, ◌≤◌, List, [], ◌∷◌, ◌++◌, length, map, replicate, None, refl, sym, ap, ◌∙◌, subst, arith, append_assoc, append-nil, length-append}
+use Rattle.std.proofs.Common.{◌≡◌, ◌+◌, ◌≤◌, List, [], ◌∷◌, ◌++◌, length, map, None, refl, sym, ap, ◌∙◌, subst, arith, append_assoc, append-nil}
 use Rattle.std.specs.List.{AllByRecursion}
-use Rattle.std.proofs.lemmas.List.{length-replicate}
 use Rattle.mn_model.specs.Lawful.{IsLawful, IsLawfulDecl, IsLawfulAlias, AreNewAfter, AreNumberedFrom}
 use Rattle.mn_model.specs.Problem.{Problem, nothing, size_of_dims, domains_of, variable_count, declared_as}
 use Rattle.mn_model.specs.Problem as problem
@@ -14,7 +13,7 @@ use Rattle.mn_sections.specs.Trees.{declaration_of, naming_of, variables_of}
 use Rattle.mn_sections.proofs.Aliases.{alias_nothing, alias_means}
 use Rattle.mn_sections.proofs.Declaring.{decl_nothing, decl_means}
 use Rattle.mn_sections.proofs.Kept.{part_nothing}
-use Rattle.mn_sections.proofs.References.{HasVariables}
+use Rattle.mn_sections.proofs.References.{HasVariables, variable_count-cons}
 
 -- 1. Declarations, and what follows them
 abbrev declared_entries : List Decl → List Entry
@@ -22,9 +21,6 @@ declared_entries decls = map (λ d. declares (declaration_of d)) decls
 
 abbrev with_decls : Problem → List Decl → Problem
 with_decls q decls = record q { decls = decls }
-
-count_more : (d : Decl) (decls : List Decl) → variable_count (d ∷ decls) ≡ size_of_dims d.dims + variable_count decls
-count_more d decls = length-append (replicate (size_of_dims d.dims) d) (problem.variables_of decls) ∙ ap (λ n. n + variable_count decls) (length-replicate (size_of_dims d.dims) d)
 
 -- entries before others break nothing, and lead to this problem
 record LeadTo (q : Problem) (entries others : List Entry) (r : Problem) : Type 0 where
@@ -44,7 +40,7 @@ decls_said q [] others none lawful are_new numbered room =
     subst (λ l. LeadTo q [] others (with_decls q l)) (sym (append-nil q.decls)) (record { kept = λ k. k; means = refl })
 decls_said q (d ∷ decls) others none lawful are_new numbered room =
     let r = with_decls q (q.decls ++ d ∷ []) in
-    let count = count_more d decls in
+    let count = variable_count-cons d decls in
     let more = variable_count-push q.decls d in
     let here : variable_count q.decls + size_of_dims d.dims ≤ VARIABLES = omega (arith, count, room) in
     let no_alias = ap (λ l. problem.aliased_as l d.name) none in

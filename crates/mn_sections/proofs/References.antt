@@ -35,8 +35,8 @@ record IsAt (n : ℕ) (decls : List Decl) (v : ℕ) : Type 0 where
   number : number_of decl.first + index ≡ n + v
   ref : numbered_ref decls v ≡ place_ref decl index
 
-counted : (d : Decl) (decls : List Decl) → variable_count (d ∷ decls) ≡ size_of_dims d.dims + variable_count decls
-counted d decls = length-append (replicate (size_of_dims d.dims) d) (variables_of decls) ∙ ap (λ k. k + variable_count decls) (length-replicate (size_of_dims d.dims) d)
+pub variable_count-cons : (d : Decl) (decls : List Decl) → variable_count (d ∷ decls) ≡ size_of_dims d.dims + variable_count decls
+variable_count-cons d decls = length-append (replicate (size_of_dims d.dims) d) (variables_of decls) ∙ ap (λ k. k + variable_count decls) (length-replicate (size_of_dims d.dims) d)
 
 here : (n : ℕ) (d : Decl) (decls : List Decl) (v : ℕ) → number_of d.first ≡ n → nat_lt v (size_of_dims d.dims) ≡ true → IsAt n (d ∷ decls) v
 here n d decls v first less = record {
@@ -69,7 +69,7 @@ is_at n (d ∷ decls) v numbered known =
       | inl less ↦ here n d decls v numbered.0 less
       | inr less ↦
           let behind : size_of_dims d.dims ≤ v = grind (arith, nat_tests) in
-          there n d decls v less (is_at (n + size_of_dims d.dims) decls (v - size_of_dims d.dims) numbered.1 (omega (arith, counted d decls)))
+          there n d decls v less (is_at (n + size_of_dims d.dims) decls (v - size_of_dims d.dims) numbered.1 (omega (arith, variable_count-cons d decls)))
     ]
 
 -- 2. A declaration is found by its name, since no other has it
@@ -96,8 +96,8 @@ module _ {X : Type 0} (name_of : X → List ℕ) where
   called_behind earlier (y ∷ xs) (suc i) x new at =
       subst (λ zs. called name_of zs (name_of x) ≡ Some x) (append_assoc earlier (y ∷ []) xs) (called_behind (earlier ++ y ∷ []) xs i x new.1 at)
 
-  pub called_at : (xs : List X) (i : ℕ) (x : X) → AreNewAfter name_of [] xs → slice_get xs i ≡ Some x → called name_of xs (name_of x) ≡ Some x
-  called_at xs i x new at = called_behind [] xs i x new at
+  pub called_by_its_name : (xs : List X) (i : ℕ) (x : X) → AreNewAfter name_of [] xs → slice_get xs i ≡ Some x → called name_of xs (name_of x) ≡ Some x
+  called_by_its_name xs i x new at = called_behind [] xs i x new at
 
 -- 3. What stands for one variable
 abbrev pub one_found : VarId → Found
@@ -148,7 +148,7 @@ module _ (q : Problem) (d : Decl) (named : declared_as q.decls d.name ≡ Some d
 -- 4. So for each variable of the instance
 module _ (p q : Problem) (has : HasVariables p q) where
   named_in : (i : ℕ) (d : Decl) → slice_get p.decls i ≡ Some d → declared_as q.decls d.name ≡ Some d
-  named_in i d at = ap (λ ds. declared_as ds d.name) has.same ∙ called_at (λ (d : Decl). d.name) p.decls i d has.lawful.distinct at
+  named_in i d at = ap (λ ds. declared_as ds d.name) has.same ∙ called_by_its_name (λ (d : Decl). d.name) p.decls i d has.lawful.distinct at
 
   module _ (v : VarId) (known : IsKnown (domains_of p.decls) v) where
     stands : IsAt 0 p.decls (number_of v)

@@ -24,7 +24,7 @@ use Rattle.mn_sections.specs.Matrices.{rows_of, tuple_count}
 use Rattle.mn_sections.specs.Trees.{items_from, maybe_items, name_from}
 use Rattle.mn_sections.proofs.Numbers.{tuple_breaks, tuple_value}
 use Rattle.mn_sections.proofs.Names.{name_of_model}
-use Rattle.mn_sections.proofs.References.{called_at}
+use Rattle.mn_sections.proofs.References.{called_by_its_name}
 use Rattle.mn_sections.proofs.Kept.{part_nothing, token_nothing, when_not, ltb_not}
 
 -- 1. Tuples that are written in the constraint
@@ -178,7 +178,7 @@ module _ (p q : Problem) (lawful : IsLawful p) (same : q.tuples ≡ p.tuples) (u
         kept =
             ap (λ (bytes : List ℕ). on (at_list n (listed_as q.tuples bytes))) spelled
             ∙ (ap (λ (ts : List Tuples). on (at_list n (listed_as ts t.name))) same
-            ∙ (ap (λ (o : Option Tuples). on (at_list n o)) (called_at (λ (x : Tuples). x.name) p.tuples i t lawful.new_tuples is)
+            ∙ (ap (λ (o : Option Tuples). on (at_list n o)) (called_by_its_name (λ (x : Tuples). x.name) p.tuples i t lawful.new_tuples is)
             ∙ ap on (when_not (not (t.arity == n)) Shape (ap not (same_length t.arity n long)))));
         means =
             ap (λ (bytes : List ℕ). Named (list_place q.tuples bytes)) spelled
