@@ -10,5 +10,6 @@ pub mod Seeing
 pub mod Settling
 pub mod Stacking
 pub mod Stepping
+pub mod There
 pub mod Turning
 pub mod Visiting

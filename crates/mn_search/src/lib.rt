@@ -17,6 +17,8 @@ mod tests;
 mod tree;
 mod turns;
 
-pub use laws::{paths_are_ordered, solutions_are_visited, visits_are_few, visits_are_unique};
+pub use laws::{
+    paths_are_ordered, solutions_are_visited, visits_are_few, visits_are_there, visits_are_unique,
+};
 pub use search::{Event, Search};
 pub use std::alloc::AllocError as NoMemory;
