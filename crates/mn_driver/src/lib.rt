@@ -21,4 +21,6 @@ pub use program::run;
 pub use status::{Ended, Status};
 
 #[cfg(test)]
+mod plain;
+#[cfg(test)]
 mod tests;
