@@ -1,5 +1,5 @@
 #!/usr/bin/env bash
-# Times the layers that the program doesn't use yet, each against a plain `Vec` or by the byte, and prints the figures.
+# Times the lexer by the byte, and the raw crates that the program doesn't use yet against a plain `Vec`, and prints the figures.
 # Machines differ and are noisy, so compare figures within one run. It is no test: nothing fails on a figure.
 set -u
 cd -- "$(dirname -- "${BASH_SOURCE[0]}")/../crates/mn_bench" || exit 1
