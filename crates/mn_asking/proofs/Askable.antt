@@ -41,6 +41,7 @@ use Rattle.mn_references.proofs.Listable.{subs_marks, subs_no_comma, subs_no_shu
 use Rattle.mn_cursor.specs.declared.asked.Asked.{Asked}
 use Rattle.mn_cursor.specs.declared.heads.Head.{Head}
 use Rattle.mn_cursor.specs.declared.heads.Head.TheVariants.{Variables, TupleList, Search, Constraints, End}
+use Rattle.mn_cursor.proofs.HeadTokens.{head_known}
 
 -- 1. VARORDER
 abbrev pub some_ref : Ref
@@ -284,13 +285,6 @@ word_known says_values = refl
 word_known maximises = refl
 word_known minimises = refl
 word_known prints = refl
-
-head_known : (h : Head) → head_of (head_token h) ≡ Some h
-head_known Variables = refl
-head_known TupleList = refl
-head_known Search = refl
-head_known Constraints = refl
-head_known End = refl
 
 head_no_item : (h : Head) → which_of item_token item_words (head_token h) ≡ None
 head_no_item Variables = refl

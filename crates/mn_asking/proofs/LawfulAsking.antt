@@ -1,8 +1,9 @@
 -- What the section on search says is lawful in the model.
 use Rattle.std.proofs.Common.{◌≡◌, ℕ, zero, suc, ◌+◌, ◌≤◌, leb, ltb, Bool, true, false, not, ◌&&◌, ◌||◌, List, [], ◌∷◌, ◌++◌, length, take, drop, Option, Some, None, Ok, Err, refl, ◌∙◌, subst, arith, length-append}
 use Rattle.std.specs.List.{AllByRecursion, range_with_len}
-use Rattle.std.proofs.lemmas.Bool.{or_parts}
+use Rattle.std.proofs.lemmas.Bool.{or_parts, not-false}
 use Rattle.std.proofs.lemmas.List.FromFn.{length-range_with_len}
+use Rattle.std.proofs.lemmas.List.{length-map}
 use Rattle.mn_lexer.specs.Terminals.{Terminal, mark}
 use Rattle.mn_lexer.specs.declared.marks.Mark.TheVariants.{CloseSquare, Comma, OpenSquare}
 use Rattle.mn_model.specs.Lawful.{IsLawful, IsKnown, IsLawfulOrder, IsLawfulPrint, IsLawfulRow}
@@ -12,19 +13,21 @@ use Rattle.mn_model.specs.declared.limits.TheConstants.{PLACES}
 use Rattle.mn_model.specs.declared.search.Print.{Print}
 use Rattle.mn_model.specs.declared.variable.VarId.{VarId}
 use Rattle.mn_model.proofs.Sizes.{size_of_dims-positive}
+use Rattle.mn_model.proofs.Lists.{all_drop, all_take, all_append, all_back, all_front, all_so}
 use Rattle.mn_grammar.specs.Places.{when, on, behind}
 use Rattle.mn_grammar.specs.Reading.{Answer, Reader, go_on, mark_at, one_of}
 use Rattle.mn_grammar.specs.Lawful.{Said}
 use Rattle.mn_grammar.specs.Lists.{Items, final, also, spell_items, breaks_items, breaks_maybe, value_items, value_maybe, spell_maybe}
 use Rattle.mn_grammar.specs.declared.Kind.TheVariants.{Shape}
 use Rattle.mn_grammar.specs.declared.site.Site.TheVariants.{Fixed, MarksOnly}
+use Rattle.mn_grammar.proofs.Steps.{on_kept}
 use Rattle.mn_references.specs.Conditions.{lesser, as_kind}
 use Rattle.mn_references.specs.References.{Ref, Sub, Aim, Lead, Found, Within, spell_ref, breaks_ref, value_ref, value_subs, lead, at_start, entered, sub_judge, found_at, are_bits, one_place}
 use Rattle.mn_references.specs.Entries.{Row, plain, bracketed, any_number, in_list, parted, rows_of, runs, run, spell_row, breaks_row, value_row, value_entry, breaks_list, Rows}
 use Rattle.mn_references.specs.Referring.{ref_at}
 use Rattle.mn_references.specs.declared.want.Unfit.TheVariants.{Form, Length}
-use Rattle.mn_references.proofs.Unbroken.{on_kept, token_kept, part_kept, behind_kept, when_kept, as_kind_kept, unfit_kept, lesser_kept, not_false, not_less, not_at_most, all_append, all_front, all_back, all_so}
-use Rattle.mn_references.proofs.LawfulReferences.{IsGood, ref_good, map_length}
+use Rattle.mn_references.proofs.Unbroken.{token_kept, part_kept, behind_kept, when_kept, as_kind_kept, unfit_kept, lesser_kept, not_less, not_at_most}
+use Rattle.mn_references.proofs.LawfulReferences.{IsGood, ref_good}
 use Rattle.mn_references.proofs.LawfulVectors.{IsFairToken, AreFair, IsTerm, known_in, entry_comes, front_more, no_front, list_vector}
 use Rattle.mn_references.proofs.Referable.{ref_spec, ref_law}
 use Rattle.mn_references.proofs.Rowing.{IsShaped, shaped_lead}
@@ -130,11 +133,11 @@ module _ (p : Problem) where
   subs_closed l (also sub subs) w = subs_closed l subs (entered w sub)
 
   full_of : (full : Bool) (vars : List VarId) → goal_aim.ends full vars ≡ None → full ≡ true
-  full_of full vars ends = not_false full (or_parts (not full) (false && not (are_bits p vars)) (unfit_kept (not full || (false && not (are_bits p vars))) Form ends)).0
+  full_of full vars ends = not-false full (or_parts (not full) (false && not (are_bits p vars)) (unfit_kept (not full || (false && not (are_bits p vars))) Form ends)).0
 
   some_vars : (l : Lead) → IsShaped l.dims → (o : Option (Items Sub)) → IsGood p goal_aim (value_subs goal_aim l o) → 1 ≤ length (value_subs goal_aim l o).vars
   some_vars l shaped None good =
-      let size = map_length l.at (range_with_len 0 (size_of_dims l.dims)) ∙ length-range_with_len 0 (size_of_dims l.dims) in
+      let size = length-map (range_with_len 0 (size_of_dims l.dims)) l.at ∙ length-range_with_len 0 (size_of_dims l.dims) in
       let some = size_of_dims-positive l.dims shaped in
       omega (arith, size, some)
   some_vars l shaped (Some subs) good =
@@ -164,16 +167,6 @@ module _ (p : Problem) where
   abbrev IsRow : List Term → Type 0
   IsRow row = IsLawfulRow (domains_of p.decls) row
 
-  all_take : (m : ℕ) (terms : List Term) → AllByRecursion (IsTerm p) terms → AllByRecursion (IsTerm p) (take m terms)
-  all_take zero terms all = tt
-  all_take (suc m) [] all = tt
-  all_take (suc m) (x ∷ terms) all = (all.0, all_take m terms all.1)
-
-  all_drop : (m : ℕ) (terms : List Term) → AllByRecursion (IsTerm p) terms → AllByRecursion (IsTerm p) (drop m terms)
-  all_drop zero terms all = all
-  all_drop (suc m) [] all = tt
-  all_drop (suc m) (x ∷ terms) all = all_drop m terms all.1
-
   take_short : (m : ℕ) (terms : List Term) → length (take m terms) ≤ length terms
   take_short zero terms = omega arith
   take_short (suc m) [] = omega arith
@@ -189,7 +182,7 @@ module _ (p : Problem) where
   parted_rows (suc n) m terms all short =
       let front = take_short m terms in
       let back = drop_short m terms in
-      (record { named = all_take m terms all; short = omega (arith, front, short) }, parted_rows n m (drop m terms) (all_drop m terms all) (omega (arith, back, short)))
+      (record { named = all_take (IsTerm p) m terms all; short = omega (arith, front, short) }, parted_rows n m (drop m terms) (all_drop (IsTerm p) m terms all) (omega (arith, back, short)))
 
   matrix_rows : (dims : List ℕ) (terms : List Term) → AllByRecursion (IsTerm p) terms → length terms ≤ PLACES → AllByRecursion IsRow (rows_of dims terms)
   matrix_rows [] terms all short = (record { named = all; short = short }, tt)

@@ -13,6 +13,7 @@ use Rattle.mn_meaning.specs.Meaning.{HoldsOver, Meets, at, value_of}
 use Rattle.mn_closure.specs.Closed.{Asked, IsAlone, LeafClosed}
 use Rattle.mn_closure.specs.Levels.{level}
 use Rattle.mn_closure.specs.Supports.{Choice, ChoiceWith, IsOpen, OtherOpen, StandsAt, Supported, SupportedAt}
+use Rattle.mn_closure.proofs.Singles.{value_at}
 use Rattle.mn_boxes.specs.Sets.{Variable}
 use Rattle.mn_domains.specs.Sets.{Sets}
 use Rattle.mn_prop.specs.Contexts.{IsNamed, place_lo}
@@ -61,11 +62,6 @@ trial_choice : (box : List (List ℤ)) (f : Term → ℤ) (ts : List Term) → (
 trial_choice box f [] there = tt
 trial_choice box f (t ∷ ts) there = (there 0 t refl, trial_choice box f ts (λ j u stands. there (suc j) u stands))
 
-value_there : (f : Term → ℤ) (ts : List Term) (i : ℕ) (t : Term) → slice_get ts i ≡ Some t → at (map f ts) i ≡ f t
-value_there f [] i t stands = absurd (cc)
-value_there f (u ∷ ts) zero t stands = ap f (cc)
-value_there f (u ∷ ts) (suc i) t stands = value_there f ts i t stands
-
 -- all places of the constraint name variables or are constants
 abbrev pub AreNamed : Con → List (List ℤ) → Type 0
 AreNamed c box = (j : ℕ) (t : Term) → StandsAt c j t → IsNamed box t
@@ -74,7 +70,7 @@ holds_choice : (lists : List Tuples) (c : Con) (i : ℕ) (t : Term) (a : ℤ) (b
 holds_choice lists c i t a box values stands named trial holds = record {
   values = map (value_of values) (places c);
   chosen = trial_choice box (value_of values) (places c) (λ j u at. trial.there u (named j u at));
-  given = value_there (value_of values) (places c) i t stands ∙ trial.given;
+  given = value_at (value_of values) (places c) i t stands ∙ trial.given;
   meets = holds;
 }
 
@@ -86,7 +82,7 @@ choice_holds lists c i t a box values stands named alone trial choice =
     agree j u at_j one another = by (decide_nat j i)
       where
         by : Decided (j ≡ i) → at choice.values j ≡ at (map (value_of values) (places c)) j
-        by (inl same) = ap (at choice.values) same ∙ (choice.given ∙ sym (ap (at (map (value_of values) (places c))) same ∙ (value_there (value_of values) (places c) i t stands ∙ trial.given)))
+        by (inl same) = ap (at choice.values) same ∙ (choice.given ∙ sym (ap (at (map (value_of values) (places c))) same ∙ (value_at (value_of values) (places c) i t stands ∙ trial.given)))
         by (inr differs) = alone j u at_j differs (at choice.values j) one ∙ sym (alone j u at_j differs (at (map (value_of values) (places c)) j) another)
 
 choice_supported : (lists : List Tuples) (c : Con) (i : ℕ) (a : ℤ) (box : List (List ℤ)) → IsWhole c → ChoiceWith lists c i a box → Supported lists c i a box
@@ -155,13 +151,6 @@ open_closed vars lists c s is always = no_step (LeafClosed vars lists c) s (reco
 })
 
 -- ---- the place that alone may have several values
-
-pub filled_within : (c : Con) → (places c ≡ [] → ⊥) → 0 < length (places c)
-filled_within c filled = by (places c) refl
-  where
-    by : (ts : List Term) → ts ≡ places c → 0 < length ts
-    by [] none = absurd (filled (sym none))
-    by (t ∷ ts) some = omega arith
 
 -- the value of a choice at a place is there
 choice_there : (box : List (List ℤ)) (ts : List Term) (xs : List ℤ) (i : ℕ) (t : Term) → Choice box ts xs → slice_get ts i ≡ Some t → PlaceHas box t (at xs i)

@@ -15,13 +15,14 @@ use Rattle.mn_boxes.proofs.Quiet.{ascends_at}
 use Rattle.mn_closure.specs.Closed.{Asked, IsAlone, LeafClosed}
 use Rattle.mn_closure.specs.Levels.{Arc, Hull}
 use Rattle.mn_closure.specs.Supports.{IsOpen}
+use Rattle.mn_closure.proofs.Wider.{wider_place}
 use Rattle.mn_domains.specs.Changes.{is_not}
 use Rattle.mn_domains.specs.Sets.{Sets}
 use Rattle.mn_domains.proofs.Filtered.{eq_so, eq_true}
 use Rattle.mn_prop.specs.Contexts.{ChangedAt, Context, IsLeastAt, IsNamed, MayGoAt}
 use Rattle.mn_prop.specs.Passes.{AllPass, IsStep}
 use Rattle.mn_prop.specs.declared.context.Fail.{Fail}
-use Rattle.mn_prop.proofs.Stepping.{as_step, change_step, no_step, place_inside, then_step}
+use Rattle.mn_prop.proofs.Stepping.{as_step, change_step, no_step, then_step}
 use Rattle.mn_basic.specs.Literals.{EachAsked}
 use Rattle.mn_basic.specs.Pairs.{IsApart, SomeAt, pair_of}
 use Rattle.mn_basic.specs.declared.relation.Relation.TheVariants.{Differ}
@@ -88,7 +89,7 @@ open_apart x y s two = no_step (IsApart s.vars x y) s (λ b asked. by b (decide_
 pub apart_step : (x y : Term) (a : ℤ) (old new : Sets) (result : Result (Unit {0}) Fail) → IsLeastAt old.sets x a → IsAlone old.sets x a → IsStep (EachAsked old.vars y (λ b. b ≢ a)) old new result → IsStep (IsApart old.vars x y) old new result
 apart_step x y a old new result least alone step =
     as_step (EachAsked old.vars y (λ b. b ≢ a)) (IsApart old.vars x y) old new result
-    (λ box is i apart b asked. (let some = apart b asked in let one : some.value ≡ a = alone some.value (place_inside box old.sets i x some.value some.there) in λ same. some.has (one ∙ sym same)))
+    (λ box is i apart b asked. (let some = apart b asked in let one : some.value ≡ a = alone some.value (wider_place box old.sets i x some.value some.there) in λ same. some.has (one ∙ sym same)))
     (λ each b asked. record { value = a; there = least.there; has = λ same. each b asked (sym same) }) step
 
 pub again_apart : (x y : Term) (old mid new : Sets) (done : Unit {0}) (result : Result (Unit {0}) Fail) → IsBox old.vars old.sets → IsBox mid.vars mid.sets → IsStep (IsApart old.vars x y) old mid (Ok done) → IsStep (IsApart mid.vars y x) mid new result

@@ -13,11 +13,12 @@ use Rattle.mn_meaning.specs.Meaning.{Meets, at}
 use Rattle.mn_closure.specs.Closed.{Asked, LeafClosed}
 use Rattle.mn_closure.specs.Levels.{Arc, level}
 use Rattle.mn_closure.specs.Supports.{Choice, ChoiceWith, StandsAt, Supported, SupportedAt}
+use Rattle.mn_closure.proofs.Wider.{wider_place}
 use Rattle.mn_prop.specs.Contexts.{IsGreatestAt, IsLeastAt, IsNamed}
 use Rattle.mn_prop.specs.Passes.{IsReady, IsStep}
 use Rattle.mn_prop.specs.declared.context.Fail.{Fail}
 use Rattle.mn_prop.proofs.Ready.{ready_named}
-use Rattle.mn_prop.proofs.Stepping.{as_step, place_inside}
+use Rattle.mn_prop.proofs.Stepping.{as_step}
 use Rattle.mn_basic.specs.Literals.{EachAsked, IsOneOf, literal_of}
 use Rattle.mn_basic.specs.Narrowing.{AllIn, IsIn, Narrows}
 use Rattle.mn_basic.specs.Trials.{is_pair}
@@ -130,7 +131,7 @@ pub reach_narrows : (n : Numbers) (x : Term) (c : Con) (lists : List Tuples) (ow
 reach_narrows n x c lists own s lo hi old new result told ready low high of reach step =
     narrows_as (AllIn s x) (LeafClosed old.vars lists c) old new result
     (λ box is i closed. all_in n x lists old.vars box s is (subst (IsReady old.vars lists) told ready)
-    (λ b has one. (let had = place_inside box old.sets i x b has in reach b one (of b (low.least b had) (high.greatest b had)))) (subst (λ d. LeafClosed old.vars lists d box) told closed))
+    (λ b has one. (let had = wider_place box old.sets i x b has in reach b one (of b (low.least b had) (high.greatest b had)))) (subst (λ d. LeafClosed old.vars lists d box) told closed))
     step
 
 -- where the numbers are those of the span

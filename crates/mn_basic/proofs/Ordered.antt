@@ -12,11 +12,12 @@ use Rattle.mn_domains.specs.Sets.{Sets}
 use Rattle.mn_closure.specs.Closed.{Asked, LeafClosed}
 use Rattle.mn_closure.specs.Levels.{Arc, level}
 use Rattle.mn_closure.specs.Supports.{StandsAt, Supported}
+use Rattle.mn_closure.proofs.Wider.{wider_place}
 use Rattle.mn_prop.specs.Contexts.{IsGreatestAt, IsLeastAt, IsNamed}
 use Rattle.mn_prop.specs.Passes.{AtLeastAt, AtMostAt, IsReady, IsStep, NoneHas, OnlyTakes}
 use Rattle.mn_prop.specs.declared.context.Fail.{Fail}
 use Rattle.mn_prop.proofs.Ready.{ready_named}
-use Rattle.mn_prop.proofs.Stepping.{as_long, as_step, failing, none_taken, place_inside, stop_step, then_step}
+use Rattle.mn_prop.proofs.Stepping.{as_long, as_step, failing, none_taken, stop_step, then_step}
 use Rattle.mn_basic.specs.Pairs.{IsOrdered, Related, SomeAt, pair_of}
 use Rattle.mn_basic.specs.declared.relation.Relation.{Relation}
 use Rattle.mn_basic.specs.declared.relation.Relation.TheVariants.{AtMost, Below}
@@ -26,10 +27,10 @@ use Rattle.mn_basic.proofs.Paired.{first_stands, pair_places, second_stands, sec
 -- ---- the cuts
 
 below_most : (x y : Term) (k hi most : ℤ) (old box : List (List ℤ)) → most ≡ hi +ℤ k → Inside box old → IsGreatestAt old y hi → IsOrdered x y k box → AtMostAt x most box
-below_most x y k hi most old box total i great ordered a has = let some = ordered.first a has in let le = some.has in let to = great.greatest some.value (place_inside box old i y some.value some.there) in omega (arith, ints, le, to, total)
+below_most x y k hi most old box total i great ordered a has = let some = ordered.first a has in let le = some.has in let to = great.greatest some.value (wider_place box old i y some.value some.there) in omega (arith, ints, le, to, total)
 
 above_least : (x y : Term) (k lo least : ℤ) (old box : List (List ℤ)) → least ≡ lo -ℤ k → Inside box old → IsLeastAt old x lo → IsOrdered x y k box → AtLeastAt y least box
-above_least x y k lo least old box rest i low ordered b has = let some = ordered.second b has in let le = some.has in let from = low.least some.value (place_inside box old i x some.value some.there) in omega (arith, ints, le, from, rest)
+above_least x y k lo least old box rest i low ordered b has = let some = ordered.second b has in let le = some.has in let from = low.least some.value (wider_place box old i x some.value some.there) in omega (arith, ints, le, from, rest)
 
 pub order_step : (x y : Term) (k hi lo most least : ℤ) (old mid new : Sets) (done : Unit {0}) (result : Result (Unit {0}) Fail) → most ≡ hi +ℤ k → least ≡ lo -ℤ k → IsBox old.vars old.sets → IsBox mid.vars mid.sets
     → IsGreatestAt old.sets y hi → IsLeastAt old.sets x lo → IsStep (AtMostAt x most) old mid (Ok done) → IsStep (AtLeastAt y least) mid new result → IsStep (IsOrdered x y k) old new result

@@ -8,6 +8,7 @@ use Rattle.mn_model.specs.declared.constraint.Con.{Con}
 use Rattle.mn_model.specs.declared.constraint.Term.{Term}
 use Rattle.mn_model.specs.declared.constraint.Term.TheVariants.{Var, Const, Not}
 use Rattle.mn_model.specs.declared.declaration.Tuples.{Tuples}
+use Rattle.mn_model.proofs.Lists.{all_at}
 use Rattle.mn_boxes.specs.Boxes.{IsBox}
 use Rattle.mn_boxes.specs.Places.{PlaceHas}
 use Rattle.mn_boxes.specs.Sets.{Variable}
@@ -16,7 +17,6 @@ use Rattle.mn_closure.specs.Levels.{Arc, level}
 use Rattle.mn_closure.specs.Supports.{Choice, ChoiceWith, StandsAt, Supported, SupportedAt}
 use Rattle.mn_prop.specs.Contexts.{AreValued}
 use Rattle.mn_prop.specs.Passes.{HasAt, IsReady}
-use Rattle.mn_model.proofs.Kept.{AllByRecursion-at}
 use Rattle.mn_prop.proofs.Valued.{valued_at}
 use Rattle.mn_basic.specs.Pairs.{Related, SomeAt, pair_of}
 use Rattle.mn_basic.specs.declared.relation.Relation.{Relation}
@@ -117,7 +117,7 @@ second_told r x y lists (suc (suc i)) a box m within other there tells = let sam
 
 -- the values of a place are at most one past the limits
 pub near_at : (vars : List Variable) (lists : List Tuples) (c : Con) (box : List (List ℤ)) (i : ℕ) (t : Term) (a : ℤ) → IsBox vars box → AreValued vars → IsReady vars lists c → StandsAt c i t → PlaceHas box t a → IsNear a
-near_at vars lists c box i t a is valued ready stands has = by t (AllByRecursion-at IsNearTerm (places c) i t ready.meant.near.places stands) has
+near_at vars lists c box i t a is valued ready stands has = by t (all_at IsNearTerm (places c) i t ready.meant.near.places stands) has
   where
     by : (u : Term) → IsNearTerm u → PlaceHas box u a → IsNear a
     by (Var v) near has = let value = valued_at vars box (number_of v) a is valued has in (omega (arith, ints, value.0), omega (arith, ints, value.1))

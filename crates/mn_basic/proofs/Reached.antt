@@ -1,17 +1,12 @@
 -- How far the numbers of a list reach.
-use Rattle.std.proofs.Common.{◌≡◌, ℕ, ◌+◌, ◌<◌, ◌≤◌, ℤ, pos, ◌≤ℤ◌, ◌⊎◌, inl, inr, zero, suc, List, [], ◌∷◌, ◌++◌, length, drop, take, get_or, refl, sym, subst, arith}
+use Rattle.std.proofs.Common.{◌≡◌, ℕ, ◌+◌, ◌<◌, ◌≤◌, ℤ, pos, ◌≤ℤ◌, ◌⊎◌, inl, inr, List, [], ◌∷◌, ◌++◌, length, drop, take, get_or, refl, sym, subst, arith}
 use Rattle.std.proofs.lemmas.Int.{ints}
 use Rattle.std.proofs.lemmas.List.{drop_more}
 use Rattle.mn_model.specs.Domain.{Has}
+use Rattle.mn_model.proofs.Ordered.{has_at}
 use Rattle.mn_meaning.specs.Families.{InIntervals}
 use Rattle.mn_basic.specs.Narrowing.{IsIn}
 use Rattle.mn_basic.specs.declared.span.Span.{Span}
-
--- the number at an index is one of the list
-pub has_at : (ks : List ℤ) (i : ℕ) (d : ℤ) → i < length ks → Has ks (get_or ks i d)
-has_at [] i d below = absurd (omega (arith, below))
-has_at (k ∷ ks) zero d below = inl refl
-has_at (k ∷ ks) (suc i) d below = inr (has_at ks i d (omega (arith, below)))
 
 -- a number of what is left is the first of it, or behind it
 has_left : (ks : List ℤ) (i : ℕ) (d b : ℤ) → i < length ks → Has (drop i ks) b → (get_or ks i d ≡ b) ⊎ Has (drop (i + 1) ks) b

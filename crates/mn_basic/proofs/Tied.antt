@@ -10,11 +10,12 @@ use Rattle.mn_boxes.specs.Sets.{Variable}
 use Rattle.mn_domains.specs.Sets.{Sets}
 use Rattle.mn_closure.specs.Closed.{LeafClosed}
 use Rattle.mn_closure.specs.Levels.{level}
+use Rattle.mn_closure.proofs.Wider.{wider_place}
 use Rattle.mn_prop.specs.Contexts.{IsGreatestAt, IsLeastAt}
 use Rattle.mn_prop.specs.Passes.{AtLeastAt, AtMostAt, IsReady, IsStep, OnlyTakes}
 use Rattle.mn_prop.specs.declared.context.Fail.{Fail}
 use Rattle.mn_prop.proofs.Ready.{ready_named}
-use Rattle.mn_prop.proofs.Stepping.{as_step, failing, inside_itself, place_inside, then_step}
+use Rattle.mn_prop.proofs.Stepping.{as_step, failing, inside_itself, then_step}
 use Rattle.mn_basic.specs.Narrowing.{AllIn, IsIn, Narrows}
 use Rattle.mn_basic.specs.Pairs.{IsTied, Related, pair_of}
 use Rattle.mn_basic.specs.declared.relation.Relation.{Relation}
@@ -57,7 +58,7 @@ pub first_narrows : (r : Relation) (x y : Term) (lists : List Tuples) (other s :
 first_narrows r x y lists other s lo hi old new result tied ready low high of spans step = narrows_as (AllIn s x) (LeafClosed old.vars lists (pair_of r x y)) old new result all step
   where
     here : (box : List (List ℤ)) → Inside box old.sets → (b : ℤ) → PlaceHas box y b → IsIn other b
-    here box i b has = let had = place_inside box old.sets i y b has in of b (low.least b had) (high.greatest b had)
+    here box i b has = let had = wider_place box old.sets i y b has in of b (low.least b had) (high.greatest b had)
 
     all : (box : List (List ℤ)) → IsBox old.vars box → Inside box old.sets → LeafClosed old.vars lists (pair_of r x y) box → AllIn s x box
     all box is i closed a has =
@@ -74,10 +75,10 @@ pub second_narrows : (r : Relation) (x y : Term) (lists : List Tuples) (other ow
 second_narrows r x y lists other own s lo hi low high old new result tied ready is_lo is_hi is_low is_high of of_own spans step = narrows_as (AllIn s y) (LeafClosed old.vars lists (pair_of r x y)) old new result all step
   where
     here : (box : List (List ℤ)) → Inside box old.sets → (a : ℤ) → PlaceHas box x a → IsIn other a
-    here box i a has = let had = place_inside box old.sets i x a has in of a (is_lo.least a had) (is_hi.greatest a had)
+    here box i a has = let had = wider_place box old.sets i x a has in of a (is_lo.least a had) (is_hi.greatest a had)
 
     itself : (box : List (List ℤ)) → Inside box old.sets → (b : ℤ) → PlaceHas box y b → IsIn own b
-    itself box i b has = let had = place_inside box old.sets i y b has in of_own b (is_low.least b had) (is_high.greatest b had)
+    itself box i b has = let had = wider_place box old.sets i y b has in of_own b (is_low.least b had) (is_high.greatest b had)
 
     all : (box : List (List ℤ)) → IsBox old.vars box → Inside box old.sets → LeafClosed old.vars lists (pair_of r x y) box → AllIn s y box
     all box is i closed b has =

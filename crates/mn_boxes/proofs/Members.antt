@@ -1,23 +1,14 @@
 -- The members of values that ascend.
-use Rattle.std.proofs.Common.{◌≡◌, suc, ◌-◌, ◌≤◌, ℤ, ◌<ℤ◌, ◌≤ℤ◌, inl, inr, List, [], ◌∷◌, length, Some, refl, sym, subst, ap, arith}
+use Rattle.std.proofs.Common.{◌≡◌, suc, ◌-◌, ◌≤◌, ℤ, ◌<ℤ◌, ◌≤ℤ◌, inl, inr, List, [], ◌∷◌, length, Some, refl, sym, ap, arith}
 use Rattle.std.proofs.lemmas.Int.{ints}
-use Rattle.std.specs.List.{AllByRecursion}
+use Rattle.mn_boxes.specs.Sets.{IsEnd}
 use Rattle.mn_model.specs.Decided.{Decided, decide_int}
 use Rattle.mn_model.specs.Domain.{Ascends, Has, IsFirst, IsLast}
+use Rattle.mn_model.proofs.Ordered.{above_all}
 
 -- each member of xs is one of ys
 abbrev pub PartOf : List ℤ → List ℤ → Type 0
 PartOf xs ys = (a : ℤ) → Has xs a → Has ys a
-
--- what is less than all is less than each
-pub above_all : (x : ℤ) (xs : List ℤ) (a : ℤ) → AllByRecursion (λ y. x <ℤ y) xs → Has xs a → x <ℤ a
-above_all x [] a less has = absurd has
-above_all x (y ∷ xs) a less (inl is) = subst (λ b. x <ℤ b) is less.0
-above_all x (y ∷ xs) a less (inr later) = above_all x xs a less.1 later
-
-pub all_above : (x : ℤ) (xs : List ℤ) → ((a : ℤ) → Has xs a → x <ℤ a) → AllByRecursion (λ y. x <ℤ y) xs
-all_above x [] each = tt
-all_above x (y ∷ xs) each = (each y (inl refl), all_above x xs (λ a has. each a (inr has)))
 
 -- a part has no more members, and is the whole where it has as many
 pub record Parted (xs ys : List ℤ) : Type 0 where
@@ -111,6 +102,10 @@ stands_last (x ∷ y ∷ xs) a up last = let rest = stands_last (y ∷ xs) a up.
     greatest : StandsLast (y ∷ xs) a → (b : ℤ) → Has (x ∷ y ∷ xs) b → b ≤ℤ a
     greatest rest b (inl same) = let less = above_all x (y ∷ xs) a up.0 rest.has in omega (arith, ints, less, same)
     greatest rest b (inr later) = rest.others b later
+
+pub end_has : (xs : List ℤ) (a : ℤ) → Ascends xs → IsEnd a xs → Has xs a
+end_has xs a up (inl first) = (stands_first xs a up first).has
+end_has xs a up (inr last) = (stands_last xs a up last).has
 
 pub is_last : (xs : List ℤ) (a : ℤ) → Ascends xs → StandsLast xs a → IsLast a xs
 is_last [] a up stands = absurd stands.has

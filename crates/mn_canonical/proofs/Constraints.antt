@@ -1,5 +1,5 @@
 -- What constraints say.
-use Rattle.std.proofs.Common.{◌≡◌, ◌≤◌, true, false, List, [], ◌∷◌, ◌++◌, length, refl, arith}
+use Rattle.std.proofs.Common.{◌≡◌, true, false, List, [], ◌∷◌, ◌++◌, length}
 use Rattle.std.specs.List.{AllByRecursion}
 use Rattle.mn_model.specs.Domain.{IsValue}
 use Rattle.mn_model.specs.Lawful.{IsLawful, IsLawfulCon, IsLawfulTerm, SuitsTable}
@@ -11,7 +11,7 @@ use Rattle.mn_model.specs.declared.constraint.Con.TheVariants as con
 use Rattle.mn_model.specs.declared.constraint.Cons.{Cons}
 use Rattle.mn_model.specs.declared.constraint.Tab.{Tab}
 use Rattle.mn_model.specs.declared.constraint.Term.{Term}
-use Rattle.mn_model.proofs.Children.{all_front, all_back}
+use Rattle.mn_model.proofs.Lists.{filled_length, all_back, all_front}
 use Rattle.mn_references.specs.Entries.{spell_entry, spell_vector}
 use Rattle.mn_language.specs.Arguments.{spell_table}
 use Rattle.mn_language.specs.Constraints.{spell_constraint}
@@ -44,10 +44,6 @@ record AreSayable (p : Problem) (cs : Cons) : Type 0 where
   suits : AllByRecursion (SuitsTable p.tuples) (tables_of cs)
   shaped : AreShaped cs
 
-filled : {X : Type 0} (v : List X) → (v ≡ [] → ⊥) → 1 ≤ length v
-filled [] some = absurd (some refl)
-filled (x ∷ v) some = omega arith
-
 module _ (read : NumbersAreRead) (p : Problem) (lawful : IsLawful p) where
   abbrev Named : List Term → Type 0
   Named terms = AllByRecursion (IsLawfulTerm (domains_of p.decls)) terms
@@ -66,7 +62,7 @@ module _ (read : NumbersAreRead) (p : Problem) (lawful : IsLawful p) where
   back v others named = all_back (IsLawfulTerm (domains_of p.decls)) v others named
 
   table : (v : List Term) (tab : Tab) → (v ≡ [] → ⊥) → AllByRecursion (SuitsTable p.tuples) ((length v, tab) ∷ []) → AllByRecursion IsValue (cells_here tab) → Says false (table_text p tab) (spell_table (table_of p tab)) true
-  table v tab some suits valued = says_table read p tab (length v) lawful (filled v some) suits.0 valued
+  table v tab some suits valued = says_table read p tab (length v) lawful (filled_length v some) suits.0 valued
 
   mutual
     says_con : (c : Con) → IsSayable p c → Says false (constraint_text p c) (spell_constraint (constraint_of p c)) true

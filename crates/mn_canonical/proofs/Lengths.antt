@@ -12,14 +12,14 @@ use Rattle.mn_model.specs.declared.declaration.Decl.{Decl}
 use Rattle.mn_model.specs.declared.declaration.Tuples.{Tuples}
 use Rattle.mn_model.specs.declared.limits.TheConstants.{TEXT_BYTES}
 use Rattle.mn_model.specs.declared.variable.VarId.{VarId}
+use Rattle.mn_model.proofs.Variables.{variable_count-cons}
+use Rattle.mn_model.proofs.Lists.{all_so, all_both}
 use Rattle.mn_sections.specs.Matrices.{rows_of, tuple_count}
 use Rattle.mn_canonical.specs.Canonical.{variables_section, tuples_section, search_section, constraints_section, canonical_text}
 use Rattle.mn_canonical.specs.Declarations.{declaration_text, nested_text, alias_text}
 use Rattle.mn_canonical.specs.Lists.{with_commas, bracketed}
 use Rattle.mn_canonical.specs.Names.{subscript_text}
 use Rattle.mn_canonical.proofs.Listing.{comma_before}
-use Rattle.mn_sections.proofs.References.{variable_count-cons}
-use Rattle.mn_canonical.proofs.Rows.{all_map}
 
 -- 1. A list in brackets is longer than each of its entries, and has a byte for each
 commas : (xs : List (List ℕ)) → length xs ≤ length (flat_map comma_before xs)
@@ -55,7 +55,7 @@ dims_within_text p (suc count ∷ dims) vars shaped =
     let text = nested_text p (suc count ∷ dims) vars in
     let inner : length (nested_text p dims front) ≤ length text = first_within (nested_text p dims front) (map (nested_text p dims) (rows_of size count (drop size vars))) in (
       rows_length (nested_text p dims) size (suc count) vars,
-      all_map (λ dim. dim ≤ length (nested_text p dims front)) (λ dim. dim ≤ length text) (λ dim within. omega arith) dims (dims_within_text p dims front shaped.1),
+      all_so (λ dim. dim ≤ length (nested_text p dims front)) (λ dim. dim ≤ length text) (λ dim within. omega arith) dims (dims_within_text p dims front shaped.1),
     )
 
 alias_within : (p : Problem) (a : Alias) → length (nested_text p a.dims a.vars) ≤ length (alias_text p a)
@@ -69,10 +69,6 @@ each_within text [] most few = tt
 each_within text (x ∷ xs) most few =
     let parts = length-append (text x) (flat_map text xs) in
     (omega arith, each_within text xs most (omega arith))
-
-both : {X : Type 0} (P Q : X → Type 0) (xs : List X) → AllByRecursion P xs → AllByRecursion Q xs → AllByRecursion (λ x. P x × Q x) xs
-both P Q [] one two = tt
-both P Q (x ∷ xs) one two = ((one.0, two.0), both P Q xs one.1 two.1)
 
 -- the aliases are a part of the text
 aliases_within : (p : Problem) → length (flat_map (alias_text p) p.aliases) ≤ length (canonical_text p)
@@ -94,13 +90,13 @@ pub record IsWritable (p : Problem) (a : Alias) : Type 0 where
 pub aliases_writable : (p : Problem) → IsLawful p → length (canonical_text p) ≤ TEXT_BYTES → AllByRecursion (IsWritable p) p.aliases
 aliases_writable p lawful short =
     let within = aliases_within p in
-    all_map (λ a. IsLawfulAlias (domains_of p.decls) a × (length (alias_text p a) ≤ NUMBER_LIMIT)) (IsWritable p)
+    all_so (λ a. IsLawfulAlias (domains_of p.decls) a × (length (alias_text p a) ≤ NUMBER_LIMIT)) (IsWritable p)
     (λ a is. record {
       lawful = is.0;
-      few = all_map (λ dim. dim ≤ length (nested_text p a.dims a.vars)) (λ dim. dim ≤ NUMBER_LIMIT) (λ dim small. let inside = alias_within p a in let line = is.1 in omega arith) a.dims (dims_within_text p a.dims a.vars is.0.shaped);
+      few = all_so (λ dim. dim ≤ length (nested_text p a.dims a.vars)) (λ dim. dim ≤ NUMBER_LIMIT) (λ dim small. let inside = alias_within p a in let line = is.1 in omega arith) a.dims (dims_within_text p a.dims a.vars is.0.shaped);
     })
     p.aliases
-    (both (IsLawfulAlias (domains_of p.decls)) (λ a. length (alias_text p a) ≤ NUMBER_LIMIT) p.aliases lawful.aliases (each_within (alias_text p) p.aliases NUMBER_LIMIT (omega arith)))
+    (all_both (IsLawfulAlias (domains_of p.decls)) (λ a. length (alias_text p a) ≤ NUMBER_LIMIT) (λ a. IsLawfulAlias (domains_of p.decls) a × (length (alias_text p a) ≤ NUMBER_LIMIT)) (λ a is few. (is, few)) p.aliases lawful.aliases (each_within (alias_text p) p.aliases NUMBER_LIMIT (omega arith)))
 
 -- 3. A declaration has no more variables than there are, and a tuple list no more tuples than there are cells
 pub record IsWritableDecl (d : Decl) : Type 0 where

@@ -9,7 +9,7 @@ use Rattle.mn_model.specs.Lawful.{IsLawful, IsLawfulDecl, IsLawfulTerm, IsKnown}
 use Rattle.mn_model.specs.Name.{IsName}
 use Rattle.mn_model.specs.Problem.{Problem, size_of_dims, variable_count, domains_of}
 use Rattle.mn_model.specs.Variable.{number_of}
-use Rattle.mn_model.proofs.Variables.{length-domains_of}
+use Rattle.mn_model.proofs.Variables.{length-domains_of, variable_count-cons}
 use Rattle.mn_model.specs.declared.constraint.Term.{Term}
 use Rattle.mn_model.specs.declared.constraint.Term.TheVariants.{Var, Const, Not}
 use Rattle.mn_model.specs.declared.declaration.Decl.{Decl}
@@ -17,7 +17,6 @@ use Rattle.mn_model.specs.declared.variable.VarId.{VarId}
 use Rattle.mn_references.specs.Entries.{spell_entry, spell_vector, spell_row}
 use Rattle.mn_references.specs.References.{only, spell_sub, spell_subs, spell_ref}
 use Rattle.mn_pieces.specs.Printed.{NumbersAreRead}
-use Rattle.mn_sections.proofs.References.{variable_count-cons}
 use Rattle.mn_sections.specs.Matrices.{indices_of}
 use Rattle.mn_sections.specs.Trees.{subs_of, place_ref, numbered_ref, ref_of, entry_of, vector_of, row_of}
 use Rattle.mn_canonical.specs.Names.{subscript_text, place_text, numbered_text, variable_text, term_text, vector_text}

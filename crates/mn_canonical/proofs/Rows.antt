@@ -6,21 +6,8 @@ use Rattle.std.proofs.lemmas.List.{length-drop, length-take-le}
 use Rattle.mn_model.specs.Lawful.{MakeTuples}
 use Rattle.mn_model.specs.Problem.{size_of_dims}
 use Rattle.mn_model.proofs.Sizes.{size_of_dims-positive}
+use Rattle.mn_model.proofs.Lists.{all_drop, all_take}
 use Rattle.mn_sections.specs.Matrices.{indices_of, rows_of, tuple_count}
-
-pub all_take : {X : Type 0} (P : X → Type 0) (n : ℕ) (xs : List X) → AllByRecursion P xs → AllByRecursion P (take n xs)
-all_take P zero xs all = tt
-all_take P (suc n) [] all = tt
-all_take P (suc n) (x ∷ xs) all = (all.0, all_take P n xs all.1)
-
-pub all_drop : {X : Type 0} (P : X → Type 0) (n : ℕ) (xs : List X) → AllByRecursion P xs → AllByRecursion P (drop n xs)
-all_drop P zero xs all = all
-all_drop P (suc n) [] all = tt
-all_drop P (suc n) (x ∷ xs) all = all_drop P n xs all.1
-
-pub all_map : {X : Type 0} (P Q : X → Type 0) → ((x : X) → P x → Q x) → (xs : List X) → AllByRecursion P xs → AllByRecursion Q xs
-all_map P Q each [] all = tt
-all_map P Q each (x ∷ xs) all = (each x all.0, all_map P Q each xs all.1)
 
 -- a row has its size, and each of its members is one of the list's
 pub record IsRow {X : Type 0} (P : X → Type 0) (size : ℕ) (row : List X) : Type 0 where

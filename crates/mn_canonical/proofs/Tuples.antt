@@ -14,6 +14,7 @@ use Rattle.mn_model.specs.Problem.{Problem}
 use Rattle.mn_model.specs.declared.constraint.Tab.{Tab}
 use Rattle.mn_model.specs.declared.constraint.Tab.TheVariants.{Named, Here}
 use Rattle.mn_model.specs.declared.declaration.Tuples.{Tuples}
+use Rattle.mn_model.proofs.Lists.{all_drop, all_take}
 use Rattle.mn_decls.specs.TupleLists.{spell_list}
 use Rattle.mn_language.specs.Arguments.{spell_number, spell_tuple, spell_table}
 use Rattle.mn_pieces.specs.Printed.{NumbersAreRead}
@@ -27,7 +28,7 @@ use Rattle.mn_canonical.proofs.Tokens.{says_mark, says_space, says_line}
 use Rattle.mn_canonical.proofs.Listing.{said_map, says_items, says_braced}
 use Rattle.mn_canonical.proofs.Names.{says_name}
 use Rattle.mn_canonical.proofs.Numbers.{says_value, says_count, said_values}
-use Rattle.mn_canonical.proofs.Rows.{IsRow, are_rows, all_take, all_drop, rest_size, tuples_filled}
+use Rattle.mn_canonical.proofs.Rows.{IsRow, are_rows, rest_size, tuples_filled}
 
 abbrev space_before : List ℕ → List ℕ
 space_before x = codes " " ++ x

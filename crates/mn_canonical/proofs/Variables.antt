@@ -1,5 +1,5 @@
 -- What declarations and aliases say.
-use Rattle.std.proofs.Common.{◌≡◌, ℕ, zero, suc, ◌-◌, ◌<◌, ◌≤◌, ℤ, pos, true, false, List, [], ◌∷◌, length, map, slice_get, refl, codes, decimal, arith}
+use Rattle.std.proofs.Common.{ℕ, zero, suc, ◌-◌, ◌<◌, ◌≤◌, ℤ, pos, true, false, List, [], ◌∷◌, length, map, slice_get, refl, codes, decimal, arith}
 use Rattle.std.specs.Fmt.{signed_decimal}
 use Rattle.std.specs.List.{AllByRecursion}
 use Rattle.std.proofs.lemmas.List.{append-nil}
@@ -12,6 +12,7 @@ use Rattle.mn_model.specs.Problem.{size_of_dims}
 use Rattle.mn_model.specs.declared.declaration.Decl.{Decl}
 use Rattle.mn_model.specs.declared.variable.Kind.{Kind}
 use Rattle.mn_model.specs.declared.variable.Kind.TheVariants.{Binary, Bounded, Sparse, Discrete}
+use Rattle.mn_model.proofs.Lists.{filled_length}
 use Rattle.mn_decls.specs.Variables.{one_value, kind_token, spell_number, spell_dims, spell_part, spell_domain, spell_entry, declares}
 use Rattle.mn_pieces.specs.Printed.{NumbersAreRead}
 use Rattle.mn_sections.specs.Trees.{dims_of, value_at, domain_of, declaration_of}
@@ -44,13 +45,9 @@ module _ (read : NumbersAreRead) where
   says_end (z ∷ values) zero valued within = says_value read z valued.0
   says_end (z ∷ values) (suc n) valued within = says_end values n valued.1 (omega arith)
 
-  filled : (values : List ℤ) → (values ≡ [] → ⊥) → 0 < length values
-  filled [] some = absurd (some refl)
-  filled (z ∷ values) some = omega arith
-
   says_ends : (values : List ℤ) → IsDomain values → Says true (ends_text values) (mark OpenCurly ∷ number (value_at values 0) ∷ mark Dots ∷ number (value_at values (length values - 1)) ∷ mark CloseCurly ∷ []) true
   says_ends values domain =
-      let some = filled values domain.filled in
+      let some = filled_length values domain.filled in
       says_open (says_both (says_both (says_both (says_both (says_both says_space (says_closed (says_mark OpenCurly))) (says_end values 0 domain.valued some)) (says_mark Dots)) (says_end values (length values - 1) domain.valued (omega arith))) (says_mark CloseCurly))
 
   says_values : (values : List ℤ) → AllByRecursion IsValue values → Says true (values_text values) (spell_domain Sparse (domain_of Sparse values)) true

@@ -14,14 +14,14 @@ use Rattle.mn_model.specs.declared.constraint.Con.TheBlock.{more_of-Con, more_of
 use Rattle.mn_model.specs.declared.constraint.Term.{Term}
 use Rattle.mn_model.specs.declared.constraint.Term.TheVariants.{Var, Const, Not}
 use Rattle.mn_model.specs.declared.declaration.Tuples.{Tuples}
+use Rattle.mn_model.proofs.Lists.{all_back, all_front}
 use Rattle.mn_boxes.specs.Boxes.{Inside, IsBox, set_of, variable_at}
 use Rattle.mn_boxes.specs.Places.{PlaceHas}
 use Rattle.mn_boxes.specs.Sets.{IsEnd, Variable}
-use Rattle.mn_boxes.proofs.Members.{StandsFirst, stands_first, is_first, StandsLast, stands_last, is_last}
+use Rattle.mn_boxes.proofs.Members.{StandsFirst, stands_first, is_first, StandsLast, stands_last, is_last, end_has}
 use Rattle.mn_boxes.proofs.Quiet.{ascends_at}
 use Rattle.mn_meaning.specs.Laws.{IsZeroOrOne}
 use Rattle.mn_meaning.proofs.Meant.{bit_of}
-use Rattle.mn_model.proofs.Children.{all_front, all_back}
 use Rattle.mn_closure.specs.Closed.{Asked, LeafClosed, signed, bit, IfSays, IfApart, IsAlone, PartsPossible, OnePossible, TwoPossible, PartsClosed, OneClosed, EachClosed, Closed, is_taken_apart}
 use Rattle.mn_closure.specs.Closures.{join}
 use Rattle.mn_closure.specs.Laws.{declared_sets}
@@ -66,10 +66,6 @@ end_of_either bounded xs ys js up_x up_y j a (inr last) = elim (has_either xs ys
 
     among : Spans (xs ++ ys) a → Has (xs ++ ys) a
     among s = let greatest = stands.others s.high (here s.high s.has_high) in let same : s.high ≡ a = omega (arith, ints, greatest, s.to) in subst (Has (xs ++ ys)) same s.has_high
-
-end_has : (xs : List ℤ) (a : ℤ) → Ascends xs → IsEnd a xs → Has xs a
-end_has xs a up (inl first) = (stands_first xs a up first).has
-end_has xs a up (inr last) = (stands_last xs a up last).has
 
 -- a value is in the set, and an end of it if P asks for that
 abbrev AskedOf : Type 0 → List ℤ → ℤ → Type 0

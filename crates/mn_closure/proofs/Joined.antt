@@ -1,12 +1,14 @@
 -- The least box around two.
-use Rattle.std.proofs.Common.{◌≡◌, ℕ, zero, suc, ℤ, ◌<ℤ◌, ◌≤ℤ◌, ◌&&◌, ◌||◌, ◌⊎◌, inl, inr, int_le, Bool, true, false, cond, List, [], ◌∷◌, ◌++◌, filter, refl, sym, subst, ap, ◌∙◌, arith}
+use Rattle.std.proofs.Common.{◌≡◌, ℕ, zero, suc, ℤ, ◌≤ℤ◌, ◌&&◌, ◌||◌, ◌⊎◌, inl, inr, int_le, Bool, true, false, List, [], ◌∷◌, ◌++◌, filter, refl, subst, ap, ◌∙◌, arith}
 use Rattle.std.proofs.lemmas.Int.{ints}
 use Rattle.std.specs.List.{AllByRecursion, list_any}
 use Rattle.std.specs.Ordering.{int_eq}
 use Rattle.mn_model.specs.Domain.{Ascends, Has}
+use Rattle.mn_model.proofs.Filtered.{filter_has, has_filter, filter_ascends, Passes}
+use Rattle.mn_model.proofs.Ordered.{le_so, le_true}
 use Rattle.mn_boxes.specs.Boxes.{Inside, IsBox, set_of, variable_at}
 use Rattle.mn_boxes.specs.Sets.{IsSetOf, Variable}
-use Rattle.mn_boxes.proofs.Members.{PartOf, above_all, all_above}
+use Rattle.mn_boxes.proofs.Members.{PartOf}
 use Rattle.mn_closure.specs.Closures.{is_among, is_between, is_joined, join, IsJoin}
 
 -- the members of two lists together
@@ -42,49 +44,12 @@ has_any p (x ∷ xs) b (inr later) is = by (p x) (has_any p xs b later is)
     by true any = refl
     by false any = any
 
--- the members that pass
-passes : (p : ℤ → Bool) (x : ℤ) (xs ys : List ℤ) (a : ℤ) (t : Bool) → p x ≡ t → (Has ys a → Has xs a × (p a ≡ true)) → Has (cond t (x ∷ ys) ys) a → Has (x ∷ xs) a × (p a ≡ true)
-passes p x xs ys a true is rest (inl same) = (inl same, ap p (sym same) ∙ is)
-passes p x xs ys a true is rest (inr later) = let r = rest later in (inr r.0, r.1)
-passes p x xs ys a false is rest later = let r = rest later in (inr r.0, r.1)
-
-pub filter_has : (p : ℤ → Bool) (xs : List ℤ) (a : ℤ) → Has (filter p xs) a → Has xs a × (p a ≡ true)
-filter_has p [] a has = absurd has
-filter_has p (x ∷ xs) a has = passes p x xs (filter p xs) a (p x) refl (filter_has p xs a) has
-
-stays_first : (x a : ℤ) (ys : List ℤ) (t : Bool) → t ≡ true → x ≡ a → Has (cond t (x ∷ ys) ys) a
-stays_first x a ys true is same = inl same
-stays_first x a ys false is same = absurd (cc)
-
-stays_later : (x a : ℤ) (ys : List ℤ) (t : Bool) → Has ys a → Has (cond t (x ∷ ys) ys) a
-stays_later x a ys true later = inr later
-stays_later x a ys false later = later
-
-pub has_filter : (p : ℤ → Bool) (xs : List ℤ) (a : ℤ) → Has xs a → p a ≡ true → Has (filter p xs) a
-has_filter p [] a has is = absurd has
-has_filter p (x ∷ xs) a (inl same) is = stays_first x a (filter p xs) (p x) (ap p same ∙ is) same
-has_filter p (x ∷ xs) a (inr later) is = stays_later x a (filter p xs) (p x) (has_filter p xs a later is)
-
-still_ascends : (x : ℤ) (ys : List ℤ) (t : Bool) → AllByRecursion (λ y. x <ℤ y) ys → Ascends ys → Ascends (cond t (x ∷ ys) ys)
-still_ascends x ys true above up = (above, up)
-still_ascends x ys false above up = up
-
-pub filter_ascends : (p : ℤ → Bool) (xs : List ℤ) → Ascends xs → Ascends (filter p xs)
-filter_ascends p [] up = tt
-filter_ascends p (x ∷ xs) up = still_ascends x (filter p xs) (p x) (all_above x (filter p xs) (λ a has. above_all x xs a up.0 (filter_has p xs a has).0)) (filter_ascends p xs up.1)
-
 -- the two tests
 equal_true : (a b : ℤ) → int_eq b a ≡ true → b ≡ a
 equal_true a b e = grind (arith, ints, e)
 
 true_equal : (a b : ℤ) → b ≡ a → int_eq b a ≡ true
 true_equal a b e = grind (arith, ints, e)
-
-le_true : (a b : ℤ) → int_le a b ≡ true → a ≤ℤ b
-le_true a b e = omega (arith, ints, e)
-
-true_le : (a b : ℤ) → a ≤ℤ b → int_le a b ≡ true
-true_le a b le = grind (arith, ints, le)
 
 among_has : (values : List ℤ) (a : ℤ) → is_among values a ≡ true → Has values a
 among_has values a e = let b = any_has (λ b. int_eq b a) values e in subst (Has values) (equal_true a b.0 b.2) b.1
@@ -110,10 +75,10 @@ between_spans values a e =
     let both = both_parts (list_any (λ b. int_le b a) values) (list_any (λ b. int_le a b) values) e in
     let l = any_has (λ b. int_le b a) values both.0 in
     let h = any_has (λ b. int_le a b) values both.1 in
-    record { low = l.0; high = h.0; has_low = l.1; has_high = h.1; from = le_true l.0 a l.2; to = le_true a h.0 h.2 }
+    record { low = l.0; high = h.0; has_low = l.1; has_high = h.1; from = le_so l.0 a l.2; to = le_so a h.0 h.2 }
 
 spans_between : (values : List ℤ) (a : ℤ) → Spans values a → is_between values a ≡ true
-spans_between values a s = rw (has_any (λ b. int_le b a) values s.low s.has_low (true_le s.low a s.from), has_any (λ b. int_le a b) values s.high s.has_high (true_le a s.high s.to))
+spans_between values a s = rw (has_any (λ b. int_le b a) values s.low s.has_low (le_true s.low a s.from), has_any (λ b. int_le a b) values s.high s.has_high (le_true a s.high s.to))
 
 spans_itself : (values : List ℤ) (a : ℤ) → Has values a → Spans values a
 spans_itself values a has = record { low = a; high = a; has_low = has; has_high = has; from = omega (arith, ints); to = omega (arith, ints) }
@@ -143,11 +108,11 @@ joined_set var xs ys = filter (is_joined var.bounded (xs ++ ys)) var.declared
 
 joins_set : (var : Variable) (xs ys : List ℤ) → Ascends var.declared → IsSetOf var xs → IsSetOf var ys → Joins var.bounded xs ys (filter (is_joined var.bounded (xs ++ ys)) var.declared)
 joins_set var xs ys up set_x set_y = record {
-  has_x = λ a has. has_filter (is_joined var.bounded (xs ++ ys)) var.declared a (set_x.declared a has) (has_joined var.bounded (xs ++ ys) a (has_front xs ys a has));
-  has_y = λ a has. has_filter (is_joined var.bounded (xs ++ ys)) var.declared a (set_y.declared a has) (has_joined var.bounded (xs ++ ys) a (has_back xs ys a has));
+  has_x = λ a has. filter_has (is_joined var.bounded (xs ++ ys)) var.declared a (set_x.declared a has) (has_joined var.bounded (xs ++ ys) a (has_front xs ys a has));
+  has_y = λ a has. filter_has (is_joined var.bounded (xs ++ ys)) var.declared a (set_y.declared a has) (has_joined var.bounded (xs ++ ys) a (has_back xs ys a has));
   ascends = filter_ascends (is_joined var.bounded (xs ++ ys)) var.declared up;
-  spans = λ a has. joined_spans var.bounded (xs ++ ys) a (filter_has (is_joined var.bounded (xs ++ ys)) var.declared a has).1;
-  among = λ unbounded a has. among_when var.bounded (xs ++ ys) a (filter_has (is_joined var.bounded (xs ++ ys)) var.declared a has).1 unbounded;
+  spans = λ a has. joined_spans var.bounded (xs ++ ys) a (has_filter (is_joined var.bounded (xs ++ ys)) var.declared a has).passes;
+  among = λ unbounded a has. among_when var.bounded (xs ++ ys) a (has_filter (is_joined var.bounded (xs ++ ys)) var.declared a has).passes unbounded;
 }
 
 -- it is a set of the variable
@@ -162,11 +127,11 @@ is_set : (var : Variable) (xs ys : List ℤ) → Ascends var.declared → IsSetO
 is_set var xs ys up set_x set_y = record {
   filled = λ none. let f = first_of xs set_x.filled in none_there (filter (is_joined var.bounded (xs ++ ys)) var.declared) f.0 ((joins_set var xs ys up set_x set_y).has_x f.0 f.1) none;
   ascends = filter_ascends (is_joined var.bounded (xs ++ ys)) var.declared up;
-  declared = λ a has. (filter_has (is_joined var.bounded (xs ++ ys)) var.declared a has).0;
+  declared = λ a has. (has_filter (is_joined var.bounded (xs ++ ys)) var.declared a has).has;
   stretch = λ bounded a b c has_a has_c low high has.
       let s = (joins_set var xs ys up set_x set_y).spans a has_a in
       let t = (joins_set var xs ys up set_x set_y).spans c has_c in
-      has_filter (is_joined var.bounded (xs ++ ys)) var.declared b has (stretched var.bounded (xs ++ ys) b bounded (record { low = s.low; high = t.high; has_low = s.has_low; has_high = t.has_high; from = below a b c s low; to = above a b c t high }));
+      filter_has (is_joined var.bounded (xs ++ ys)) var.declared b has (stretched var.bounded (xs ++ ys) b bounded (record { low = s.low; high = t.high; has_low = s.has_low; has_high = t.has_high; from = below a b c s low; to = above a b c t high }));
 }
   where
     below : (a b c : ℤ) → (s : Spans (xs ++ ys) a) → a ≤ℤ b → s.low ≤ℤ b
@@ -203,15 +168,15 @@ joins_at (var ∷ vars) (xs ∷ one) (ys ∷ another) up is_one is_another (suc 
 least_set : (var : Variable) (xs ys zs : List ℤ) → IsSetOf var zs → PartOf xs zs → PartOf ys zs → PartOf (filter (is_joined var.bounded (xs ++ ys)) var.declared) zs
 least_set var xs ys zs set_z part_x part_y a has = by var.bounded refl
   where
-    kept : Has var.declared a × (is_joined var.bounded (xs ++ ys) a ≡ true)
-    kept = filter_has (is_joined var.bounded (xs ++ ys)) var.declared a has
+    kept : Passes (is_joined var.bounded (xs ++ ys)) var.declared a
+    kept = has_filter (is_joined var.bounded (xs ++ ys)) var.declared a has
 
     inside : (b : ℤ) → Has (xs ++ ys) b → Has zs b
     inside b has = elim (has_either xs ys b has) [ inl x ↦ part_x b x | inr y ↦ part_y b y ]
 
     by : (t : Bool) → var.bounded ≡ t → Has zs a
-    by true is = let s = joined_spans var.bounded (xs ++ ys) a kept.1 in set_z.stretch is s.low a s.high (inside s.low s.has_low) (inside s.high s.has_high) s.from s.to kept.0
-    by false is = inside a (among_when var.bounded (xs ++ ys) a kept.1 is)
+    by true is = let s = joined_spans var.bounded (xs ++ ys) a kept.passes in set_z.stretch is s.low a s.high (inside s.low s.has_low) (inside s.high s.has_high) s.from s.to kept.has
+    by false is = inside a (among_when var.bounded (xs ++ ys) a kept.passes is)
 
 least_box : (vars : List Variable) (one another around : List (List ℤ)) → IsBox vars one → IsBox vars another → IsBox vars around → Inside one around → Inside another around
     → (v : ℕ) (a : ℤ) → Has (set_of (join vars one another) v) a → Has (set_of around v) a

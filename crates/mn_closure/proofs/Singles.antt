@@ -86,7 +86,7 @@ holds_some : (lists : List Tuples) (s : List ℤ) (c : Con) → AllByRecursion (
 holds_some lists s c known holds = record { values = map (value_of (at s)) (places c); chosen = choice_there s (places c) known; meets = holds }
 
 -- a place and its value
-value_at : (f : Term → ℤ) (ts : List Term) (i : ℕ) (t : Term) → slice_get ts i ≡ Some t → at (map f ts) i ≡ f t
+pub value_at : (f : Term → ℤ) (ts : List Term) (i : ℕ) (t : Term) → slice_get ts i ≡ Some t → at (map f ts) i ≡ f t
 value_at f [] i t stands = absurd (cc)
 value_at f (u ∷ ts) zero t stands = ap f (cc)
 value_at f (u ∷ ts) (suc i) t stands = value_at f ts i t stands

@@ -12,12 +12,11 @@ use Rattle.mn_model.specs.declared.constraint.Con.TheBlock.{more_of-Con, more_of
 use Rattle.mn_model.specs.declared.constraint.Term.{Term}
 use Rattle.mn_model.specs.declared.constraint.Term.TheVariants.{Var, Const, Not}
 use Rattle.mn_model.specs.declared.declaration.Tuples.{Tuples}
+use Rattle.mn_model.proofs.Lists.{all_append, all_back, all_front}
 use Rattle.mn_boxes.specs.Places.{PlaceHas}
 use Rattle.mn_boxes.specs.Sets.{Variable}
 use Rattle.mn_meaning.specs.Laws.{IsZeroOrOne, BitsAreBits}
 use Rattle.mn_meaning.specs.Meaning.{at, value_of, SomeMeet, EachMeets, Holds, decide_meets}
-use Rattle.mn_model.proofs.Children.{all_front, all_back}
-use Rattle.mn_meaning.proofs.MemberLemmas.{AllByRecursion-append}
 use Rattle.mn_meaning.proofs.Negating.{front_is, rest_is, behind_is, negation_holds}
 use Rattle.mn_closure.specs.Closed.{LeafClosed, signed, bit, IfSays, IfApart, IsAlone, PartsPossible, OnePossible, EachPossible, TwoPossible, Possible, PartsClosed, OneClosed, EachClosed, Closed, is_taken_apart}
 use Rattle.mn_closure.specs.Closures.{singles}
@@ -33,10 +32,10 @@ known_other n (Const k) known = tt
 known_other n (Not v) known = known
 
 swapped : (n : ℕ) (v w : List Term) → AllByRecursion (Known n) (v ++ w) → AllByRecursion (Known n) (w ++ v)
-swapped n v w known = AllByRecursion-append (Known n) w v (all_back (Known n) v w known) (all_front (Known n) v w known)
+swapped n v w known = all_append (Known n) w v (all_back (Known n) v w known) (all_front (Known n) v w known)
 
 longer : (n : ℕ) (v : List Term) (k : ℤ) → AllByRecursion (Known n) v → AllByRecursion (Known n) (v ++ Const k ∷ [])
-longer n v k known = AllByRecursion-append (Known n) v (Const k ∷ []) known (tt, tt)
+longer n v k known = all_append (Known n) v (Const k ∷ []) known (tt, tt)
 
 mutual
   pub known_negation : (n : ℕ) (c : Con) → AllByRecursion (Known n) (places c) → AllByRecursion (Known n) (places (negation c))
@@ -51,16 +50,16 @@ mutual
   known_negation n (con.WatchedOr cs) known = known_negations n cs known
   known_negation n (con.WatchedAnd cs) known = known_negations n cs known
   known_negation n (con.Reify' p (more_of-Con c none) r) known =
-      AllByRecursion-append (Known n) (places c) (other r ∷ []) (all_front (Known n) (places c) (r ∷ []) known) (known_other n r (all_back (Known n) (places c) (r ∷ []) known).0, tt)
+      all_append (Known n) (places c) (other r ∷ []) (all_front (Known n) (places c) (r ∷ []) known) (known_other n r (all_back (Known n) (places c) (r ∷ []) known).0, tt)
   known_negation n (con.Reifyimply' p (more_of-Con c none) r) known =
-      ((all_back (Known n) (places c) (r ∷ []) known).0, AllByRecursion-append (Known n) (places (negation c)) [] (known_negation n c (all_front (Known n) (places c) (r ∷ []) known)) tt)
+      ((all_back (Known n) (places c) (r ∷ []) known).0, all_append (Known n) (places (negation c)) [] (known_negation n c (all_front (Known n) (places c) (r ∷ []) known)) tt)
   known_negation n (con.Negated' p (more_of-Con c none)) known = known
   known_negation n c known = known
 
   known_negations : (n : ℕ) (cs : Cons) → AllByRecursion (Known n) (places_of cs) → AllByRecursion (Known n) (places_of (negations cs))
   known_negations n con.End known = tt
   known_negations n (con.More' p (more_of-Con c none) q (more_of-Cons cs nothing)) known =
-      AllByRecursion-append (Known n) (places (negation c)) (places_of (negations cs)) (known_negation n c (all_front (Known n) (places c) (places_of cs) known)) (known_negations n cs (all_back (Known n) (places c) (places_of cs) known))
+      all_append (Known n) (places (negation c)) (places_of (negations cs)) (known_negation n c (all_front (Known n) (places c) (places_of cs) known)) (known_negations n cs (all_back (Known n) (places c) (places_of cs) known))
 
 -- what is so exactly where something else is
 pub through : {P Q R : Type 0} → P ↔ Q → Q ↔ R → P ↔ R

@@ -1,5 +1,5 @@
 -- What constraints answer, by their parts.
-use Rattle.std.proofs.Common.{◌≡◌, ◌≤◌, ℕ, zero, suc, ◌+◌, ◌-◌, true, false, length, is_some, List, [], ◌∷◌, ◌++◌, drop, Option, Some, None, Result, Ok, Err, refl, sym, ap, ◌∙◌, subst, arith}
+use Rattle.std.proofs.Common.{◌≡◌, ◌≤◌, ℕ, zero, suc, ◌-◌, true, false, length, is_some, List, [], drop, Option, Some, None, Result, Ok, Err, refl, sym, ap, ◌∙◌, subst, arith}
 use Rattle.std.specs.Result.{IfOk}
 use Rattle.mn_lexer.specs.Terminals.{Terminal}
 use Rattle.mn_lexer.specs.declared.marks.Mark.TheVariants.{CloseCurly, CloseRound, Comma, OpenCurly, OpenRound}
@@ -10,7 +10,7 @@ use Rattle.mn_model.specs.declared.constraint.Term.{Term}
 use Rattle.mn_grammar.specs.Gives.{Gives, Stops}
 use Rattle.mn_grammar.specs.Lists.{items_at}
 use Rattle.mn_grammar.specs.Places.{when}
-use Rattle.mn_grammar.specs.Reading.{Answer, Reader, fault_at, go_on, judged, mark_at, never, one, one_of, refused, ret, then_read, which_mark, within}
+use Rattle.mn_grammar.specs.Reading.{Answer, Reader, go_on, judged, mark_at, one_of, refused, ret, then_read, which_mark, within}
 use Rattle.mn_grammar.specs.declared.Kind.{Kind}
 use Rattle.mn_grammar.specs.declared.Kind.TheVariants.{Limit}
 use Rattle.mn_grammar.specs.declared.Limit.TheVariants.{Constraints as OfConstraints}
@@ -29,7 +29,7 @@ use Rattle.mn_references.proofs.Unbroken.{lesser_kept}
 use Rattle.mn_language.specs.Arguments.{term_of}
 use Rattle.mn_language.specs.Constraints.{Before, at_form, at_inside, cells_behind, gathered, inside, tied}
 use Rattle.mn_language.specs.Constructing.{behind_form, child_ends, constraint_at, depth_inside, form_at, gather_at, leaf_at, tie_at, with_child}
-use Rattle.mn_language.specs.Forms.{all_forms, form_of, form_token}
+use Rattle.mn_language.specs.Forms.{form_of}
 use Rattle.mn_language.specs.declared.forms.Form.{Form}
 use Rattle.mn_language.specs.declared.forms.Form.TheVariants.{Leaf as of_leaf, Gather as of_gather, Tie as of_tie}
 use Rattle.mn_language.specs.declared.forms.Gather.{Gather}

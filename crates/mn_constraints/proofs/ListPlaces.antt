@@ -1,19 +1,15 @@
 -- The place of a tuple list is the first with its name, since no name stands twice.
 use Rattle.std.proofs.Common.{◌≡◌, ◌==◌, ℕ, zero, suc, Bool, true, false, not, cond, List, [], ◌∷◌, ◌++◌, slice_get, Option, Some, None, refl, sym, ap, ◌∙◌, subst}
-use Rattle.std.proofs.lemmas.Slice.Eq.{bytes_eq-Decides}
-use Rattle.std.proofs.Common.{rules, arith}
-use Rattle.std.proofs.lemmas.Bool.Decides.{nat_tests}
 use Rattle.std.specs.Option.{option_and_then}
 use Rattle.std.specs.Str.{bytes_eq}
+use Rattle.std.proofs.lemmas.Bool.{eqb-true}
 use Rattle.mn_model.specs.Lawful.{AreNewAfter}
 use Rattle.mn_model.specs.Problem.{called, listed_as}
 use Rattle.mn_model.specs.declared.declaration.Tuples.{Tuples}
+use Rattle.mn_model.proofs.Named.{later_new, same_bytes}
 use Rattle.mn_grammar.specs.Places.{when}
 use Rattle.mn_grammar.specs.declared.Kind.TheVariants.{Shape}
 use Rattle.mn_language.specs.Arguments.{at_list, list_place}
-
-same_bytes : (xs : List ℕ) → bytes_eq xs xs ≡ true
-same_bytes xs = let h : xs ≡ xs = refl in search (rules, bytes_eq-Decides)
 
 module _ {X : Type 0} (name_of : X → List ℕ) where
   -- an item that is found has the name
@@ -24,15 +20,6 @@ module _ {X : Type 0} (name_of : X → List ℕ) where
       by : (b : Bool) → bytes_eq name (name_of y) ≡ b → cond b (Some y) (called name_of xs name) ≡ Some x → (called name_of xs name ≡ Some x → bytes_eq name (name_of x) ≡ true) → bytes_eq name (name_of x) ≡ true
       by true is e later = let same : y ≡ x = cc in subst (λ z. bytes_eq name (name_of z) ≡ true) same is
       by false is e later = later e
-
-  -- a name that none of some has none of the first of them has
-  none_before : (xs ys : List X) (name : List ℕ) → called name_of (xs ++ ys) name ≡ None → called name_of xs name ≡ None
-  none_before [] ys name e = refl
-  none_before (x ∷ xs) ys name e = by (bytes_eq name (name_of x)) e (none_before xs ys name)
-    where
-      by : (b : Bool) → cond b (Some x) (called name_of (xs ++ ys) name) ≡ None → (called name_of (xs ++ ys) name ≡ None → called name_of xs name ≡ None) → cond b (Some x) (called name_of xs name) ≡ None
-      by true e later = cc
-      by false e later = later e
 
   last_is_called : (xs : List X) (x : X) → called name_of (xs ++ x ∷ []) (name_of x) ≡ None → ⊥
   last_is_called [] x e = by (bytes_eq (name_of x) (name_of x)) (same_bytes (name_of x)) e
@@ -45,13 +32,6 @@ module _ {X : Type 0} (name_of : X → List ℕ) where
       by : (b : Bool) → cond b (Some y) (called name_of (xs ++ x ∷ []) (name_of x)) ≡ None → (called name_of (xs ++ x ∷ []) (name_of x) ≡ None → ⊥) → ⊥
       by true e later = cc
       by false e later = later e
-
-  -- the name of a later one isn't among the earlier ones
-  later_new : (earlier xs : List X) (i : ℕ) (x : X) → AreNewAfter name_of earlier xs → slice_get xs i ≡ Some x → called name_of earlier (name_of x) ≡ None
-  later_new earlier [] zero x new is = cc
-  later_new earlier [] (suc i) x new is = cc
-  later_new earlier (y ∷ xs) zero x new is = let same : y ≡ x = cc in subst (λ z. called name_of earlier (name_of z) ≡ None) same new.0
-  later_new earlier (y ∷ xs) (suc i) x new is = none_before earlier (y ∷ []) (name_of x) (later_new (earlier ++ y ∷ []) xs i x new.1 is)
 
 place_by : (t x : Tuples) (ts earlier : List Tuples) (name : List ℕ) (i : ℕ) (b : Bool) → bytes_eq name t.name ≡ b → AreNewAfter (λ t. t.name) earlier (t ∷ ts) → slice_get (t ∷ ts) i ≡ Some x → cond b (Some t) (listed_as ts name) ≡ Some x
     → ((j : ℕ) → slice_get ts j ≡ Some x → listed_as ts name ≡ Some x → j ≡ list_place ts name) → i ≡ cond b 0 (suc (list_place ts name))
@@ -79,14 +59,11 @@ pub place_is : (ts : List Tuples) (name : List ℕ) (i : ℕ) (x : Tuples) → A
 place_is ts name i x new at found = list_place_of ts [] name i x new at (sym found ∙ at)
 
 -- one of another length is of the wrong shape
-same_number : (m n : ℕ) → (m == n) ≡ true → m ≡ n
-same_number m n e = grind (arith, nat_tests)
-
 not_same : (m n : ℕ) → (m ≡ n → ⊥) → (m == n) ≡ false
 not_same m n differ = by (m == n) refl
   where
     by : (b : Bool) → (m == n) ≡ b → b ≡ false
-    by true e = absurd (differ (same_number m n e))
+    by true e = absurd (differ (eqb-true m n e))
     by false e = refl
 
 pub kind_of_other : (n : ℕ) (o : Option Tuples) (x : Tuples) → o ≡ Some x → (x.arity ≡ n → ⊥) → Some Shape ≡ at_list n o

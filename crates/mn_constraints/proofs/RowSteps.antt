@@ -1,13 +1,13 @@
 -- What a row of arguments answers, argument by argument.
-use Rattle.std.proofs.Common.{◌≡◌, ◌+◌, ◌-◌, ◌<◌, ◌≤◌, ℕ, List, [], ◌∷◌, ◌++◌, length, take, drop, get_or, Option, Some, None, Result, Ok, Err, refl, sym, ap, ◌∙◌, subst, arith}
+use Rattle.std.proofs.Common.{◌≡◌, ◌+◌, ◌-◌, ◌<◌, ◌≤◌, ℕ, List, [], ◌∷◌, ◌++◌, length, take, drop, get_or, Option, Some, None, Ok, Err, refl, sym, ap, ◌∙◌, subst, arith}
 use Rattle.std.proofs.Math.Seq.{take-length}
 use Rattle.mn_lexer.specs.Terminals.{Terminal}
 use Rattle.mn_lexer.specs.declared.marks.Mark.{Mark}
 use Rattle.mn_lexer.specs.declared.marks.Mark.TheVariants.{CloseRound, Comma, OpenRound}
 use Rattle.mn_model.specs.Problem.{Problem}
 use Rattle.mn_model.specs.declared.constraint.Con.{Con}
-use Rattle.mn_grammar.specs.Gives.{Gives, Stops}
-use Rattle.mn_grammar.specs.Reading.{Answer, Reader, go_on, judged, classed, one, mark_at, which_mark, ret, then_read}
+use Rattle.mn_grammar.specs.Gives.{Stops}
+use Rattle.mn_grammar.specs.Reading.{Answer, Reader, go_on, classed, mark_at, which_mark, ret, then_read}
 use Rattle.mn_grammar.specs.Rows.{more_at, row_at}
 use Rattle.mn_grammar.specs.declared.Fault.{Fault}
 use Rattle.mn_grammar.specs.declared.Kind.{Kind}
@@ -15,9 +15,8 @@ use Rattle.mn_grammar.specs.declared.Stop.{Stop}
 use Rattle.mn_grammar.specs.declared.Stop.TheVariants.{Refused, NoMemory}
 use Rattle.mn_grammar.specs.declared.site.Site.TheVariants.{MarksOnly}
 use Rattle.mn_cursor.proofs.Turning.{stops_first, stops_second}
-use Rattle.mn_references.specs.Conditions.{as_kind}
 use Rattle.mn_references.proofs.Unbroken.{as_kind_kept}
-use Rattle.mn_language.specs.Arguments.{Value, of_terms, of_numbers, of_tuples, behind_argument, behind_last, behind_value}
+use Rattle.mn_language.specs.Arguments.{Value, of_terms, behind_argument, behind_value}
 use Rattle.mn_language.specs.Constructing.{argument_at, leaf_at}
 use Rattle.mn_language.specs.Constraints.{meaning}
 use Rattle.mn_language.specs.Forms.{form_line}
@@ -27,6 +26,7 @@ use Rattle.mn_language.specs.declared.forms.Argument.TheVariants as takes
 use Rattle.mn_language.specs.declared.forms.Leaf.{Leaf}
 use Rattle.mn_language.specs.declared.values.Value.{Value as Kept}
 use Rattle.mn_language.specs.declared.values.Value.TheVariants as kept
+use Rattle.mn_language.proofs.LawfulArguments.{last_is}
 use Rattle.mn_constraints.specs.Filling.{argued_seen, argument_then_at, with_behind}
 use Rattle.mn_constraints.specs.declared.arguments.Argued.{Argued}
 
@@ -94,11 +94,6 @@ module _ (p : Problem) (used : ℕ) (k : Argument) (vs : List Value) (m : Mark) 
         ∙ ap (λ v. Ok (v, ws)) (settled a (sym is ∙ mark_kept m kind us ws marked))
 
 -- 3. The row
-last_is : (vs : List Value) (v : Value) → behind_last (vs ++ v ∷ []) ≡ behind_value v
-last_is [] v = refl
-last_is (w ∷ []) v = refl
-last_is (w ∷ x ∷ vs) v = last_is (x ∷ vs) v
-
 module _ (p : Problem) (used : ℕ) where
   abbrev pub row_from : Argument → List Argument → List Value → Reader (List Value)
   row_from k others vs = more_at behind_argument (argument_at p used) k others vs

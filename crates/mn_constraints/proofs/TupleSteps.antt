@@ -1,12 +1,11 @@
 -- What tables answer, tuple by tuple.
-use Rattle.std.proofs.Common.{◌≡◌, ◌≤◌, ℕ, ℤ, List, [], ◌∷◌, ◌++◌, length, drop, take, Option, Some, None, Result, Ok, refl, sym, ap, ◌∙◌, subst}
+use Rattle.std.proofs.Common.{◌≡◌, ◌≤◌, ℕ, ℤ, List, [], ◌++◌, length, drop, take, Option, Some, None, Result, Ok, refl, sym, ap, ◌∙◌, subst}
 use Rattle.std.proofs.Common.{inl, inr}
 use Rattle.std.specs.Prelude.{IfNone}
 use Rattle.std.proofs.lemmas.List.{take-append-drop}
 use Rattle.mn_lexer.specs.Terminals.{Terminal}
 use Rattle.mn_lexer.specs.declared.marks.Mark.TheVariants.{Greater, Less}
 use Rattle.mn_model.specs.Problem.{Problem, listed_as}
-use Rattle.mn_model.specs.declared.constraint.Tab.{Tab}
 use Rattle.mn_model.specs.declared.constraint.Tab.TheVariants.{Named, Here}
 use Rattle.mn_grammar.specs.Gives.{Gives, Stops}
 use Rattle.mn_grammar.specs.Reading.{go_on, judged, mark_at, one, refused, ret}
@@ -22,7 +21,7 @@ use Rattle.mn_language.specs.Arguments.{at_list, at_tuple, exactly, list_place}
 use Rattle.mn_language.specs.Constructing.{TableStart, at_table, behind_table, table_at, tuple_at, which_table, written_here}
 use Rattle.mn_language.proofs.ArgumentLaws.{tuple_spec, tuple_law}
 use Rattle.mn_constraints.specs.Numbering.{numbers_from}
-use Rattle.mn_constraints.specs.Tabling.{tuples_behind, tuples_from}
+use Rattle.mn_constraints.specs.Tabling.{tuples_behind}
 
 -- 1. A tuple
 module _ (used n : ℕ) (cells : List ℤ) (ts : List Terminal) (k : Option Kind) (is : k ≡ at_tuple used n cells) where

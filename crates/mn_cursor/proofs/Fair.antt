@@ -1,5 +1,5 @@
 -- What a word and a number of the lexer are in the model: names and values.
-use Rattle.std.proofs.Common.{◌≡◌, ℕ, zero, suc, ◌<◌, ℤ, pos, negsuc, Bool, true, false, not, ◌||◌, ◌&&◌, ◌==◌, List, [], ◌∷◌, refl, arith, bytes_eq, codes}
+use Rattle.std.proofs.Common.{◌≡◌, ℕ, zero, suc, ℤ, pos, negsuc, Bool, true, false, ◌||◌, ◌&&◌, ◌==◌, List, [], ◌∷◌, refl, arith, bytes_eq, codes}
 use Rattle.std.specs.List.{list_all, list_any}
 use Rattle.std.specs.Char.{is_ascii_alphabetic, is_ascii_digit}
 use Rattle.std.specs.Prelude.{Result, Ok, Err}
@@ -7,7 +7,7 @@ use Rattle.std.specs.Result.{MatchResult, IsOk}
 use Rattle.std.specs.Str.{byte, IsAscii, IsUtf8}
 use Rattle.std.proofs.lemmas.Str.{IsUtf8-from_ascii}
 use Rattle.std.proofs.lemmas.Bool.Decides.{nat_tests}
-use Rattle.std.proofs.lemmas.Bool.{and_parts, or_parts}
+use Rattle.std.proofs.lemmas.Bool.{and_parts, or_parts, not-true, and_from, or_left}
 use Rattle.std.proofs.lemmas.Int.{ints}
 use Rattle.mn_lexer.specs.Bytes.{is_word_byte}
 use Rattle.mn_lexer.specs.Forms.{IsWord}
@@ -15,6 +15,7 @@ use Rattle.mn_lexer.specs.Numbers.{IsWithinLimit}
 use Rattle.mn_grammar.specs.Tokens.{is_name}
 use Rattle.mn_model.specs.Domain.{IsValue}
 use Rattle.mn_model.specs.Name.{IsName, begins_name, continues_name}
+use Rattle.mn_model.proofs.NameParts.{ascii}
 
 -- a number within the limit is a value
 pub is_a_value : (z : ℤ) → IsWithinLimit z → IsValue z
@@ -27,22 +28,13 @@ goes_on_so false true h e f = refl
 goes_on_so false false true e f = cc
 goes_on_so false false false e f = cc
 
-both : (a b : Bool) → a ≡ true → b ≡ true → (a && b) ≡ true
-both true true e f = refl
-both true false e f = cc
-both false b e f = cc
-
 -- bytes of a word without `-` go on with a name
 no_dash : (bs : List ℕ) → list_all is_word_byte bs ≡ true → list_any (λ b. b == byte "-") bs ≡ false → list_all continues_name bs ≡ true
 no_dash [] all none = refl
 no_dash (b ∷ bs) all none =
     let parts = and_parts (is_word_byte b) (list_all is_word_byte bs) all in
     let nones = or_parts (b == byte "-") (list_any (λ b. b == byte "-") bs) none in
-    both (continues_name b) (list_all continues_name bs) (goes_on_so (begins_name b) (is_ascii_digit b) (b == byte "-") parts.0 nones.0) (no_dash bs parts.1 nones.1)
-
-only_dash : (b : Bool) → not b ≡ true → b ≡ false
-only_dash true e = cc
-only_dash false e = refl
+    and_from (continues_name b) (list_all continues_name bs) (goes_on_so (begins_name b) (is_ascii_digit b) (b == byte "-") parts.0 nones.0) (no_dash bs parts.1 nones.1)
 
 -- a single byte that begins a word and isn't `_` is a letter
 letter : (a b : Bool) → (a || b) ≡ true → b ≡ false → a ≡ true
@@ -61,22 +53,15 @@ alone b e = dropped (b == byte "_") e
 pub is_a_name : (bs : List ℕ) → IsWord bs → is_name bs ≡ true → IsName bs
 is_a_name [] form named = absurd form
 is_a_name (b ∷ []) form named =
-    let parts = or_parts (list_any (λ b. b == byte "-") (b ∷ [])) (bytes_eq (b ∷ []) (codes "_")) (only_dash _ named) in
+    let parts = or_parts (list_any (λ b. b == byte "-") (b ∷ [])) (bytes_eq (b ∷ []) (codes "_")) (not-true _ named) in
     letter (is_ascii_alphabetic b) (b == byte "_") form.0 (alone b parts.1)
 is_a_name (b ∷ d ∷ bs) form named =
-    let parts = or_parts (list_any (λ b. b == byte "-") (b ∷ d ∷ bs)) (bytes_eq (b ∷ d ∷ bs) (codes "_")) (only_dash _ named) in
+    let parts = or_parts (list_any (λ b. b == byte "-") (b ∷ d ∷ bs)) (bytes_eq (b ∷ d ∷ bs) (codes "_")) (not-true _ named) in
     let nones = or_parts (b == byte "-") (list_any (λ b. b == byte "-") (d ∷ bs)) parts.0 in
-    both (begins_name b) (list_all continues_name (b ∷ d ∷ bs)) form.0
-    (both (continues_name b) (list_all continues_name (d ∷ bs)) (starts (begins_name b) (is_ascii_digit b) form.0) (no_dash (d ∷ bs) form.1 nones.1))
-  where
-    starts : (s d : Bool) → s ≡ true → (s || d) ≡ true
-    starts true d e = refl
-    starts false d e = cc
+    and_from (begins_name b) (list_all continues_name (b ∷ d ∷ bs)) form.0
+    (and_from (continues_name b) (list_all continues_name (d ∷ bs)) (or_left (begins_name b) (is_ascii_digit b) form.0) (no_dash (d ∷ bs) form.1 nones.1))
 
 -- so a name is a text in UTF-8
-ascii : (b : ℕ) → continues_name b ≡ true → b < 128
-ascii b goes_on = grind (arith, nat_tests)
-
 ascii_all : (bs : List ℕ) → list_all continues_name bs ≡ true → IsAscii bs
 ascii_all [] all i = omega arith
 ascii_all (b ∷ bs) all zero = ascii b (and_parts (continues_name b) (list_all continues_name bs) all).0

@@ -1,5 +1,6 @@
-pub mod Reached
-pub mod Looking
 pub mod Fair
-pub mod Turning
+pub mod HeadTokens
 pub mod ListSteps
+pub mod Looking
+pub mod Reached
+pub mod Turning

@@ -18,7 +18,7 @@ use Rattle.mn_grammar.proofs.Words.{name_token, name_class, a_name_leaf, Lawful-
 use Rattle.mn_grammar.proofs.Classes.{either_token, either_value, either_class}
 use Rattle.mn_grammar.proofs.Joins.{joined, Join, Lawful-then}
 use Rattle.mn_grammar.proofs.Choices.{either, Choice, Lawful-or}
-use Rattle.mn_grammar.proofs.Steps.{join_leaf, valued, Lawful-valued, Lawful-leaf_then, mark_then, Lawful-mark_then}
+use Rattle.mn_grammar.proofs.Steps.{join_leaf, valued, Lawful-valued, Lawful-leaf_then, mark_then, Lawful-mark_then, on_kept}
 use Rattle.mn_grammar.proofs.Views.{IsView, Lawful-view}
 use Rattle.mn_grammar.proofs.Items.{Entries, items_spec, Lawful-items}
 use Rattle.mn_grammar.proofs.Nested.{unread, Sound-unread}
@@ -29,7 +29,8 @@ use Rattle.mn_references.specs.Conditions.{as_kind}
 use Rattle.mn_references.specs.References.{Sub, Ref, spell_subs, value_ref, at_name, lead, lead_of, one_place}
 use Rattle.mn_references.specs.declared.want.Unfit.{Unfit}
 use Rattle.mn_references.proofs.Referable.{as_kind_kinds, lesser_kinds, at_name_kinds, blocks_subs, subs_spec, subs_law, some_name, ref_spec, ref_law}
-use Rattle.mn_references.proofs.Unbroken.{on_kept, lesser_kept}
+use Rattle.mn_references.proofs.Unbroken.{lesser_kept}
+use Rattle.mn_references.proofs.Listable.{subs_marks}
 use Rattle.mn_decls.specs.Aliases.{Nest, one_var, nest_of, Nests, last_nest, nest_and, spell_nest, spell_nests, at_var, at_next, at_last, behind_nest, breaks_nest, breaks_nests, with_nest, with_nests, Led, led_to, Entering, nests_ends, nests_led, NestStart, which_nest, at_nest, nest_first, var_rest, nests_rest, nest_at}
 use Rattle.mn_decls.specs.Variables.{Target, of_var, of_matrix, spell_number, spell_target, new_name, alias_dim, with_dim, alias_dims_judge, matrix_dims, Declaring, with_one, with_matrix, breaks_target, named, alias_dims_at, matrix_at, var_at, target_at, alias_at}
 
@@ -192,12 +193,8 @@ nest_solid : (n : Nest) → spell_nest n ≡ [] → ⊥
 nest_solid (one_var r) e = cc
 nest_solid (nest_of ns) e = cc
 
-subs_only_marks : (o : Option (Items Sub)) → OnlyMarks (blocks_subs o)
-subs_only_marks None t e = is_no_other OpenSquare t e
-subs_only_marks (Some subs) t e = refl
-
 pub nest_marks : (dims : List ℕ) (n : Nest) → OnlyMarks (blocks_nest dims n)
-nest_marks [] (one_var r) t e = subs_only_marks r.subs t e
+nest_marks [] (one_var r) t e = subs_marks r.subs t e
 nest_marks (dim ∷ dims) (one_var r) t e = refl
 nest_marks [] (nest_of ns) t e = refl
 nest_marks (dim ∷ dims) (nest_of ns) t e = refl
@@ -456,7 +453,7 @@ module _ (p : Problem) (name : List ℕ) where
       (Lawful-or (is_the_mark OpenSquare) opened var_spec target_choice (then_read (mark_at MarksOnly OpenSquare None) (λ u. matrix_at p name)) (var_at p name) opened_law one_law)
 
   pub target_marks : (x : Target) → OnlyMarks (blocks_target x)
-  target_marks (of_var r) = subs_only_marks r.subs
+  target_marks (of_var r) = subs_marks r.subs
   target_marks (of_matrix l n) = nest_marks (matrix_dims l) n
 
 -- 5. An alias behind its word

@@ -1,6 +1,7 @@
 -- What the code of aliases does, step by step, is what their readers answer.
 use Rattle.std.proofs.Common.{◌≡◌, ℕ, ℤ, pos, zero, suc, leb, ◌+◌, ◌-◌, ◌<◌, ◌≤◌, Bool, true, false, cond, ◌||◌, List, [], ◌∷◌, ◌++◌, length, drop, get_or, Option, Some, None, is_some, Ok, Err, Result, refl, sym, ap, ◌∙◌, subst, inl, inr, arith, length-append}
 use Rattle.std.specs.Prelude.{IfErr, IfOk}
+use Rattle.std.proofs.lemmas.List.{drop_all}
 use Rattle.mn_lexer.specs.Terminals.{Terminal, mark}
 use Rattle.mn_lexer.specs.declared.marks.Mark.{Mark}
 use Rattle.mn_lexer.specs.declared.marks.Mark.TheVariants.{OpenSquare, CloseSquare, Comma, Equals}
@@ -292,12 +293,6 @@ some_drop [] n less = absurd (omega arith)
 some_drop (x ∷ dims) zero less = (x, dims, refl)
 some_drop (x ∷ dims) (suc n) less = some_drop dims n (omega arith)
 
-pub no_drop : (dims : List ℕ) (n : ℕ) → length dims ≤ n → drop n dims ≡ []
-no_drop [] zero le = refl
-no_drop [] (suc n) le = refl
-no_drop (x ∷ dims) zero le = absurd (omega arith)
-no_drop (x ∷ dims) (suc n) le = no_drop dims n (omega arith)
-
 pub levels_more : (dims ws : List ℕ) (w d : ℕ) (ds : List ℕ) (outer : List Level) → drop (length ws) dims ≡ d ∷ ds → levels dims (ws ++ w ∷ []) outer ≡ record { wanted = w; dims = ds } ∷ levels dims ws outer
 levels_more [] [] w d ds outer e = cc
 levels_more [] (v ∷ ws) w d ds outer e = cc
@@ -344,14 +339,14 @@ module _ (p : Problem) (b : Brackets) (ts : List Terminal) where
 
   pub named_stops : (e : Stop) → length b.dims.now ≤ depth → ((vars : List VarId) → Stops e (nest_at p [] vars ts)) → Stops e (before_entry p b ts)
   unfolding before_entry entry_then
-  named_stops e le stops = subst (λ (l : List ℕ). Stops e (then_read (nest_at p l b.vars) (rest_of p (open_levels b)) ts)) (sym (no_drop b.dims.now depth le)) (stops_first e _ _ (stops b.vars))
+  named_stops e le stops = subst (λ (l : List ℕ). Stops e (then_read (nest_at p l b.vars) (rest_of p (open_levels b)) ts)) (sym (drop_all depth b.dims.now le)) (stops_first e _ _ (stops b.vars))
 
   pub names : (z : Brackets) (n : Named) (us : List Terminal) → length b.dims.now ≤ depth → ((vars : List VarId) → nest_at p [] vars ts ≡ Ok (led_by vars n, us)) → z.dims.now ≡ b.dims.now → z.wanted.items ≡ b.wanted.items → z.vars ≡ b.vars ++ n.vars → behind_entry p z n.behind us ≡ before_entry p b ts
   unfolding behind_entry before_entry entry_then
   names z n us le reads same wanted vars =
       (λ i. rest_of p (levels (same i) (wanted i) []) (record { vars = vars i; behind = n.behind }) us)
       ∙ ap (λ r. go_on r (rest_of p (open_levels b))) (sym (reads b.vars))
-      ∙ ap (λ (l : List ℕ). then_read (nest_at p l b.vars) (rest_of p (open_levels b)) ts) (sym (no_drop b.dims.now depth le))
+      ∙ ap (λ (l : List ℕ). then_read (nest_at p l b.vars) (rest_of p (open_levels b)) ts) (sym (drop_all depth b.dims.now le))
 
   pub all_closed : (behind : Option Unfit) → b.wanted.items ≡ [] → behind_entry p b behind ts ≡ Ok (record { vars = b.vars; behind = behind }, ts)
   unfolding behind_entry

@@ -1,7 +1,7 @@
 -- An alias that breaks nothing leads to as many variables as its dimensions say, all of them declared.
 use Rattle.std.proofs.Common.{◌≡◌, ℕ, zero, suc, ◌+◌, ◌*◌, ◌-◌, ◌<◌, ◌≤◌, leb, ltb, false, not, ◌||◌, List, [], ◌∷◌, ◌++◌, length, Option, Some, None, Ok, refl, sym, ap, ◌∙◌, subst, arith, length-append}
 use Rattle.std.specs.List.{AllByRecursion}
-use Rattle.std.proofs.lemmas.Bool.{or_parts}
+use Rattle.std.proofs.lemmas.Bool.{or_parts, not-false}
 use Rattle.mn_lexer.specs.Terminals.{Terminal}
 use Rattle.mn_model.specs.Lawful.{IsLawful, IsKnown, IsLawfulAlias}
 use Rattle.mn_model.specs.Name.{IsName}
@@ -9,17 +9,19 @@ use Rattle.mn_model.specs.Problem.{Problem, domains_of, size_of_dims, variable_c
 use Rattle.mn_model.specs.Variable.{number_of}
 use Rattle.mn_model.specs.declared.variable.VarId.{VarId}
 use Rattle.mn_model.proofs.Variables.{length-domains_of}
+use Rattle.mn_model.proofs.Lists.{all_append, all_so}
 use Rattle.mn_grammar.specs.Lawful.{IsRead, Said}
 use Rattle.mn_grammar.specs.Places.{when, on, behind}
 use Rattle.mn_grammar.specs.declared.Kind.{Kind}
 use Rattle.mn_grammar.specs.declared.Kind.TheVariants as kinds
+use Rattle.mn_grammar.proofs.Steps.{on_kept}
 use Rattle.mn_references.specs.Conditions.{as_kind}
 use Rattle.mn_references.specs.References.{Ref, Found, value_ref, at_name, lead_of, breaks_ref, one_place}
 use Rattle.mn_references.specs.Referring.{ref_at}
 use Rattle.mn_references.specs.declared.want.Unfit.TheVariants.{Form}
 use Rattle.mn_references.proofs.LawfulReferences.{IsGood, ref_good}
 use Rattle.mn_references.proofs.Referable.{ref_spec, ref_law}
-use Rattle.mn_references.proofs.Unbroken.{on_kept, behind_kept, token_kept, part_kept, when_kept, as_kind_kept, unfit_kept, lesser_kept, not_false, not_less, not_at_most, all_append, all_so}
+use Rattle.mn_references.proofs.Unbroken.{behind_kept, token_kept, part_kept, when_kept, as_kind_kept, unfit_kept, lesser_kept, not_less, not_at_most}
 use Rattle.mn_decls.specs.Aliases.{Nest, one_var, nest_of, Nests, last_nest, nest_and, spell_nest, at_next, at_last, behind_nest, breaks_nest, breaks_nests, with_nest, with_nests, Led, nest_at}
 use Rattle.mn_decls.proofs.AliasLaw.{nest_spec, nest_law}
 
@@ -38,7 +40,7 @@ module _ (p : Problem) where
   good_one : (f : Found) → IsGood p (one_place p false) f → f.behind ≡ None → length f.vars ≡ 1
   good_one f good ends =
       let kept = or_parts (not good.full) false (unfit_kept (not good.full || false) Form (good.ends ∙ ends)) in
-      good.one (not_false good.full kept.0)
+      good.one (not-false good.full kept.0)
 
   -- variables with so many more behind them, all of them declared
   record Fills (vars : List VarId) (more : ℕ) (all : List VarId) : Type 0 where

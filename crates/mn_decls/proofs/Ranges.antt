@@ -1,55 +1,19 @@
 -- Ascending values with all from one to another.
-use Rattle.std.proofs.Common.{◌≡◌, ℕ, zero, suc, ◌+◌, ◌-◌, ◌*◌, ◌<◌, ◌≤◌, ℤ, pos, ◌+ℤ◌, ◌-ℤ◌, ◌<ℤ◌, ◌≤ℤ◌, inl, inr, Bool, true, false, cond, int_le, int_lt, List, [], ◌∷◌, ◌++◌, length, filter, take, drop, get_or, refl, sym, subst, ap, ◌∙◌, arith, length-append, append_assoc}
+use Rattle.std.proofs.Common.{◌≡◌, ℕ, zero, suc, ◌+◌, ◌-◌, ◌*◌, ◌<◌, ◌≤◌, ℤ, pos, ◌+ℤ◌, ◌-ℤ◌, ◌<ℤ◌, ◌≤ℤ◌, cond, int_le, int_lt, List, [], ◌∷◌, ◌++◌, length, filter, take, drop, refl, sym, ap, ◌∙◌, arith, length-append, append_assoc, mul_assoc}
 use Rattle.std.proofs.lemmas.Int.{ints}
 use Rattle.std.proofs.lemmas.List.{length-take-le, length-drop}
-use Rattle.std.specs.List.{AllByRecursion, AllWithin}
+use Rattle.std.specs.List.{AllByRecursion}
 use Rattle.std.specs.Int.{int_gap}
-use Rattle.mn_model.specs.Domain.{Ascends, Has, IsValue, numbers_from, stretch}
+use Rattle.mn_model.specs.Domain.{Ascends, IsValue, numbers_from, stretch}
 use Rattle.mn_model.specs.Problem.{size_of_dims}
-use Rattle.mn_model.proofs.Stretches.{plus-int_gap, length-stretch, Ascends-numbers_from, IsDomain-stretch}
+use Rattle.mn_model.proofs.Stretches.{plus-int_gap, length-stretch, IsDomain-stretch, Ascends-stretch}
+use Rattle.mn_model.proofs.Lists.{all_append, all_so, all_filter, all_passed}
+use Rattle.mn_model.proofs.Ordered.{lt_so, next_le}
+use Rattle.mn_model.proofs.Filtered.{filter_ascends}
 use Rattle.mn_grammar.proofs.Sites.{both_nil}
 use Rattle.mn_decls.specs.Variables.{with_range}
 
--- 1. What a test leaves of values
-lt_so : (a b : ℤ) → int_lt a b ≡ true → a <ℤ b
-lt_so a b h = grind (arith, ints)
-
-lt_true : (a b : ℤ) → a <ℤ b → int_lt a b ≡ true
-lt_true a b h = grind (arith, ints)
-
-pub filter_all : (p : ℤ → Bool) (P : ℤ → Type 0) → ((x : ℤ) → p x ≡ true → P x) → (xs : List ℤ) → AllByRecursion P (filter p xs)
-filter_all p P so [] = tt
-filter_all p P so (x ∷ xs) = by (p x) refl (filter_all p P so xs)
-  where
-    by : (t : Bool) → p x ≡ t → AllByRecursion P (filter p xs) → AllByRecursion P (cond t (x ∷ filter p xs) (filter p xs))
-    by true e rest = (so x e, rest)
-    by false e rest = rest
-
-pub filter_keeps : (p : ℤ → Bool) (P : ℤ → Type 0) (xs : List ℤ) → AllByRecursion P xs → AllByRecursion P (filter p xs)
-filter_keeps p P [] all = tt
-filter_keeps p P (x ∷ xs) all = by (p x) (filter_keeps p P xs all.1)
-  where
-    by : (t : Bool) → AllByRecursion P (filter p xs) → AllByRecursion P (cond t (x ∷ filter p xs) (filter p xs))
-    by true rest = (all.0, rest)
-    by false rest = rest
-
-pub filter_up : (p : ℤ → Bool) (xs : List ℤ) → Ascends xs → Ascends (filter p xs)
-filter_up p [] up = tt
-filter_up p (x ∷ xs) up = by (p x) (filter_up p xs up.1)
-  where
-    by : (t : Bool) → Ascends (filter p xs) → Ascends (cond t (x ∷ filter p xs) (filter p xs))
-    by true rest = (filter_keeps p (λ y. x <ℤ y) xs up.0, rest)
-    by false rest = rest
-
-pub all_append : (P : ℤ → Type 0) (xs ys : List ℤ) → AllByRecursion P xs → AllByRecursion P ys → AllByRecursion P (xs ++ ys)
-all_append P [] ys a b = b
-all_append P (x ∷ xs) ys a b = (a.0, all_append P xs ys a.1 b)
-
-all_so : (P Q : ℤ → Type 0) → ((x : ℤ) → P x → Q x) → (xs : List ℤ) → AllByRecursion P xs → AllByRecursion Q xs
-all_so P Q so [] all = tt
-all_so P Q so (x ∷ xs) all = (so x all.0, all_so P Q so xs all.1)
-
--- values below b, and others from b on
+-- 1. Values below b, and others from b on
 pub join_up : (b : ℤ) (xs ys : List ℤ) → Ascends xs → AllByRecursion (λ x. x <ℤ b) xs → Ascends ys → AllByRecursion (λ y. b ≤ℤ y) ys → Ascends (xs ++ ys)
 join_up b [] ys up below up' from = up'
 join_up b (x ∷ xs) ys up below up' from =
@@ -77,27 +41,23 @@ stretch_below : (lo hi : ℤ) → lo ≤ℤ hi → AllByRecursion (λ x. x <ℤ 
 unfolding stretch
 stretch_below lo hi ordered = below_end lo (suc (int_gap lo hi)) (hi +ℤ pos 1) (omega (arith, ints, plus-int_gap lo hi ordered))
 
-stretch_up : (lo hi : ℤ) → Ascends (stretch lo hi)
-unfolding stretch
-stretch_up lo hi = Ascends-numbers_from lo (suc (int_gap lo hi))
-
 -- 3. Values with a stretch ascend, and are values of a model
 module _ (xs : List ℤ) (lo hi : ℤ) (ordered : lo ≤ℤ hi) where
   back_above : AllByRecursion (λ y. (hi +ℤ pos 1) ≤ℤ y) (filter (λ x. int_lt hi x) xs)
-  back_above = filter_all (λ x. int_lt hi x) (λ y. (hi +ℤ pos 1) ≤ℤ y) (λ x e. let less = lt_so hi x e in omega (arith, ints, less)) xs
+  back_above = all_passed (λ y. (hi +ℤ pos 1) ≤ℤ y) (λ x. int_lt hi x) (λ x e. let less = lt_so hi x e in omega (arith, ints, less)) xs
 
   pub range_ascends : Ascends xs → Ascends (with_range xs lo hi)
   range_ascends up =
-      join_up lo (filter (λ x. int_lt x lo) xs) (stretch lo hi ++ filter (λ x. int_lt hi x) xs) (filter_up (λ x. int_lt x lo) xs up)
-      (filter_all (λ x. int_lt x lo) (λ x. x <ℤ lo) (λ x e. lt_so x lo e) xs)
-      (join_up (hi +ℤ pos 1) (stretch lo hi) (filter (λ x. int_lt hi x) xs) (stretch_up lo hi) (stretch_below lo hi ordered) (filter_up (λ x. int_lt hi x) xs up) back_above)
+      join_up lo (filter (λ x. int_lt x lo) xs) (stretch lo hi ++ filter (λ x. int_lt hi x) xs) (filter_ascends (λ x. int_lt x lo) xs up)
+      (all_passed (λ x. x <ℤ lo) (λ x. int_lt x lo) (λ x e. lt_so x lo e) xs)
+      (join_up (hi +ℤ pos 1) (stretch lo hi) (filter (λ x. int_lt hi x) xs) (Ascends-stretch lo hi) (stretch_below lo hi ordered) (filter_ascends (λ x. int_lt hi x) xs up) back_above)
       (all_append (λ y. lo ≤ℤ y) (stretch lo hi) (filter (λ x. int_lt hi x) xs) (stretch_from lo hi)
       (all_so (λ y. (hi +ℤ pos 1) ≤ℤ y) (λ y. lo ≤ℤ y) (λ y le. omega (arith, ints, le, ordered)) (filter (λ x. int_lt hi x) xs) back_above))
 
   pub range_values : IsValue lo → IsValue hi → AllByRecursion IsValue xs → AllByRecursion IsValue (with_range xs lo hi)
   range_values low high all =
-      all_append IsValue (filter (λ x. int_lt x lo) xs) (stretch lo hi ++ filter (λ x. int_lt hi x) xs) (filter_keeps (λ x. int_lt x lo) IsValue xs all)
-      (all_append IsValue (stretch lo hi) (filter (λ x. int_lt hi x) xs) (IsDomain-stretch lo hi ordered low high).valued (filter_keeps (λ x. int_lt hi x) IsValue xs all))
+      all_append IsValue (filter (λ x. int_lt x lo) xs) (stretch lo hi ++ filter (λ x. int_lt hi x) xs) (all_filter IsValue (λ x. int_lt x lo) xs all)
+      (all_append IsValue (stretch lo hi) (filter (λ x. int_lt hi x) xs) (IsDomain-stretch lo hi ordered low high).valued (all_filter IsValue (λ x. int_lt hi x) xs all))
 
   -- how many they are
   pub range_length : (below above : ℕ) → length (filter (λ x. int_lt x lo) xs) ≡ below → length (filter (λ x. int_lt hi x) xs) ≡ above → pos (length (with_range xs lo hi)) ≡ (pos below +ℤ ((hi -ℤ lo) +ℤ pos 1)) +ℤ pos above
@@ -108,54 +68,6 @@ module _ (xs : List ℤ) (lo hi : ℤ) (ordered : lo ≤ℤ hi) where
       omega (arith, ints, whole, behind, middle, e, f)
 
 -- 4. Where values are parted
-above_all : (x : ℤ) (xs : List ℤ) (a : ℤ) → AllByRecursion (λ y. x <ℤ y) xs → Has xs a → x <ℤ a
-above_all x [] a less has = absurd has
-above_all x (y ∷ xs) a less (inl is) = subst (λ b. x <ℤ b) is less.0
-above_all x (y ∷ xs) a less (inr later) = above_all x xs a less.1 later
-
-in_order : (xs : List ℤ) (i j : ℕ) (d : ℤ) → Ascends xs → i ≤ j → j < length xs → get_or xs i d ≤ℤ get_or xs j d
-in_order [] i j d up order within = absurd (omega (arith, within))
-in_order (x ∷ xs) zero zero d up order within = omega (arith, ints)
-in_order (x ∷ xs) zero (suc j) d up order within = let less = above_all x xs (get_or xs j d) up.0 (has_at xs j d (omega arith)) in omega (arith, ints, less)
-  where
-    has_at : (ys : List ℤ) (k : ℕ) (e : ℤ) → k < length ys → Has ys (get_or ys k e)
-    has_at [] k e below = absurd (omega arith)
-    has_at (y ∷ ys) zero e below = inl refl
-    has_at (y ∷ ys) (suc k) e below = inr (has_at ys k e (omega arith))
-in_order (x ∷ xs) (suc i) zero d up order within = absurd (omega (arith, order))
-in_order (x ∷ xs) (suc i) (suc j) d up order within = in_order xs i j d up.1 (omega (arith, order)) (omega (arith, within))
-
-pub less_in_front : (xs : List ℤ) (a : ℤ) (i j : ℕ) (d : ℤ) → Ascends xs → i ≤ j → j < length xs → int_lt (get_or xs j d) a ≡ true → int_lt (get_or xs i d) a ≡ true
-less_in_front xs a i j d up order within less =
-    let le = in_order xs i j d up order within in
-    let lt = lt_so (get_or xs j d) a less in
-    lt_true (get_or xs i d) a (omega (arith, ints, le, lt))
-
-pub at_least : (x a : ℤ) → int_lt x a ≡ false → int_le a x ≡ true
-at_least x a e = grind (arith, ints)
-
-pub not_at_least : (x a : ℤ) → int_lt x a ≡ true → int_le a x ≡ false
-not_at_least x a e = grind (arith, ints)
-
-pub filter_take : (p : ℤ → Bool) (xs : List ℤ) (i : ℕ) → AllWithin (λ y. p y ≡ true) xs 0 i → AllWithin (λ y. p y ≡ false) xs i (length xs) → filter p xs ≡ take i xs
-filter_take p [] zero front back = refl
-filter_take p [] (suc i) front back = refl
-filter_take p (x ∷ xs) zero front back =
-    ap (λ t. cond t (x ∷ filter p xs) (filter p xs)) (back 0 x (omega arith) (omega arith)) ∙ filter_take p xs zero (λ k d low high. absurd (omega arith)) (λ k d low high. back (suc k) d (omega arith) (omega arith))
-filter_take p (x ∷ xs) (suc i) front back =
-    ap (λ t. cond t (x ∷ filter p xs) (filter p xs)) (front 0 x (omega arith) (omega arith)) ∙ ap (λ ys. x ∷ ys) (filter_take p xs i (λ k d low high. front (suc k) d (omega arith) (omega arith)) (λ k d low high. back (suc k) d (omega arith) (omega arith)))
-
-pub filter_drop : (p : ℤ → Bool) (xs : List ℤ) (i : ℕ) → AllWithin (λ y. p y ≡ false) xs 0 i → AllWithin (λ y. p y ≡ true) xs i (length xs) → filter p xs ≡ drop i xs
-filter_drop p [] zero front back = refl
-filter_drop p [] (suc i) front back = refl
-filter_drop p (x ∷ xs) zero front back =
-    ap (λ t. cond t (x ∷ filter p xs) (filter p xs)) (back 0 x (omega arith) (omega arith)) ∙ ap (λ ys. x ∷ ys) (filter_drop p xs zero (λ k d low high. absurd (omega arith)) (λ k d low high. back (suc k) d (omega arith) (omega arith)))
-filter_drop p (x ∷ xs) (suc i) front back =
-    ap (λ t. cond t (x ∷ filter p xs) (filter p xs)) (front 0 x (omega arith) (omega arith)) ∙ filter_drop p xs i (λ k d low high. front (suc k) d (omega arith) (omega arith)) (λ k d low high. back (suc k) d (omega arith) (omega arith))
-
-next_le : (a x : ℤ) → int_le (a +ℤ pos 1) x ≡ int_lt a x
-next_le a x = grind (arith, ints)
-
 pub from_next : (xs : List ℤ) (a : ℤ) → filter (λ x. int_lt a x) xs ≡ filter (λ x. int_le (a +ℤ pos 1) x) xs
 from_next [] a = refl
 from_next (x ∷ xs) a = ap (λ t. cond t (x ∷ filter (λ y. int_lt a y) xs) (filter (λ y. int_lt a y) xs)) (sym (next_le a x)) ∙ ap (λ ys. cond (int_le (a +ℤ pos 1) x) (x ∷ ys) ys) (from_next xs a)
@@ -163,23 +75,7 @@ from_next (x ∷ xs) a = ap (λ t. cond t (x ∷ filter (λ y. int_lt a y) xs) (
 -- 5. One more dimension
 pub size_more : (dims : List ℕ) (dim : ℕ) → size_of_dims (dims ++ dim ∷ []) ≡ size_of_dims dims * dim
 size_more [] dim = omega arith
-size_more (d ∷ dims) dim = ap (λ n. d * n) (size_more dims dim) ∙ times_assoc d (size_of_dims dims) dim
-  where
-    times_assoc : (a b c : ℕ) → a * (b * c) ≡ a * b * c
-    times_assoc a b c = grind arith
-
-pub all_dims : (l : List ℕ) (dim : ℕ) → AllByRecursion (λ d. 1 ≤ d) l → 1 ≤ dim → AllByRecursion (λ d. 1 ≤ d) (l ++ dim ∷ [])
-all_dims [] dim all here = (here, tt)
-all_dims (d ∷ l) dim all here = (all.0, all_dims l dim all.1 here)
-
-pub some_places : (l : List ℕ) → AllByRecursion (λ d. 1 ≤ d) l → 1 ≤ size_of_dims l
-some_places [] all = omega arith
-some_places (d ∷ l) all = at_least_one d (size_of_dims l) all.0 (some_places l all.1)
-  where
-    at_least_one : (m n : ℕ) → 1 ≤ m → 1 ≤ n → 1 ≤ m * n
-    at_least_one zero n a b = elim a [ ]
-    at_least_one (suc m) zero a b = elim b [ ]
-    at_least_one (suc m) (suc n) a b = omega arith
+size_more (d ∷ dims) dim = ap (λ n. d * n) (size_more dims dim) ∙ sym (mul_assoc d (size_of_dims dims) dim)
 
 -- 6. A stretch, number by number
 pub stretch_more : (lo hi : ℤ) → lo <ℤ hi → stretch lo hi ≡ lo ∷ stretch (lo +ℤ pos 1) hi

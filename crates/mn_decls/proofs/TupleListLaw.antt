@@ -25,6 +25,7 @@ use Rattle.mn_cursor.specs.Looks.{first_as}
 use Rattle.mn_cursor.specs.Heads.{head_token, all_heads, head_of}
 use Rattle.mn_cursor.specs.declared.heads.Head.{Head}
 use Rattle.mn_cursor.specs.declared.heads.Head.TheVariants as heads
+use Rattle.mn_cursor.proofs.HeadTokens.{head_known}
 use Rattle.mn_decls.specs.TupleLists.{TupleList, spell_list, spell_lists, Listing, listed, after_list, is_past_cells, fair_count, fair_size, fair_number, breaks_numbers, breaks_list, breaks_lists, value_lists, lists_spec, number_turn, numbers_at, list_at, judge_first, first_at, listed_before, lists_at}
 
 -- 1. Kinds of conditions
@@ -196,13 +197,6 @@ list_law s w =
 abbrev tokens : Name ⊎ Head → Terminal
 tokens = either_token name_token head_token
 
-pub heads_known : (h : Head) → head_of (head_token h) ≡ Some h
-heads_known heads.Variables = refl
-heads_known heads.TupleList = refl
-heads_known heads.Search = refl
-heads_known heads.Constraints = refl
-heads_known heads.End = refl
-
 no_name : (h : Head) → name_of (head_token h) ≡ None
 no_name heads.Variables = refl
 no_name heads.TupleList = refl
@@ -222,7 +216,7 @@ first_spec s = firsts Mixed tokens (λ (n : Name). n.bytes) judge_first heads.En
 first_law : (s : Listing) → Lawful (first_spec s) (first_at s)
 unfolding first_at
 first_law s = Lawful-one Mixed tokens (either_value (λ n. n.bytes) (λ h. h)) (which_either name_of head_of) (judge_first s) (inr heads.End) (record {
-  class = either_class name_token (λ n. n.bytes) name_of head_token (λ h. h) head_of name_class (set_class head_token all_heads heads_known) no_name;
+  class = either_class name_token (λ n. n.bytes) name_of head_token (λ h. h) head_of name_class (set_class head_token all_heads head_known) no_name;
   is_site = ((head_token heads.End, refl, refl), inl names_wanted);
   kinds = first_kinds s;
 })

@@ -2,6 +2,7 @@
 use Rattle.std.proofs.Common.{◌≡◌, ◌⊎◌, ℕ, ◌+◌, ◌*◌, ◌<◌, ◌≤◌, ℤ, pos, negsuc, ◌*ℤ◌, ◌≤ℤ◌, Bool, true, false, not, ◌||◌, List, [], ◌∷◌, ◌++◌, length, drop, Option, Some, None, is_some, Ok, Err, if◌then◌else◌, refl, sym, ap, ◌∙◌, subst, inl, inr, int_lt, nat_abs, arith, length-append, bytes_eq}
 use Rattle.std.specs.List.{AllByRecursion}
 use Rattle.std.proofs.lemmas.Int.{ints}
+use Rattle.mn_references.proofs.Unbroken.{when_kept}
 use Rattle.mn_lexer.specs.Terminals.{Terminal}
 use Rattle.mn_grammar.specs.Tokens.{name_of, number_of}
 use Rattle.mn_grammar.specs.Places.{when}
@@ -158,10 +159,6 @@ module _ (p : Problem) (count size : ℤ) where
   if_none true j c e = cc
   if_none false j c e = (refl, e)
 
-  when_none : (b : Bool) (j : Kind) → when b j ≡ None → b ≡ false
-  when_none true j e = cc
-  when_none false j e = refl
-
   count_least : fair_count p count ≡ None → int_lt count (pos 0) ≡ false
   count_least fair = (if_none (int_lt count (pos 0)) kinds.Shape _ fair).0
 
@@ -170,7 +167,7 @@ module _ (p : Problem) (count size : ℤ) where
 
   pub room_for : fair_size p count size ≡ None → (numbers : List ℤ) → pos (length numbers) ≤ℤ (count *ℤ size) → cells_of p + length numbers ≤ CELLS
   room_for fair numbers few =
-      let within : is_past_cells p (count *ℤ size) ≡ false = when_none _ (kinds.Limit limits.Cells) (if_none (int_lt size (pos 1)) kinds.Shape _ fair).1 in
+      let within : is_past_cells p (count *ℤ size) ≡ false = when_kept _ (kinds.Limit limits.Cells) (if_none (int_lt size (pos 1)) kinds.Shape _ fair).1 in
       at (count *ℤ size) few within
     where
       at : (all : ℤ) → pos (length numbers) ≤ℤ all → is_past_cells p all ≡ false → cells_of p + length numbers ≤ CELLS

@@ -35,11 +35,12 @@ use Rattle.mn_cursor.specs.Added.{with_declaration}
 use Rattle.mn_cursor.specs.Heads.{head_token, all_heads, head_of}
 use Rattle.mn_cursor.specs.declared.heads.Head.{Head}
 use Rattle.mn_cursor.specs.declared.heads.Head.TheVariants as heads
+use Rattle.mn_cursor.proofs.HeadTokens.{head_known}
 use Rattle.mn_decls.specs.Variables.{Part, one_value, range, Written, Target, Entry, declares, names, spell_number, spell_dims, spell_part, spell_domain, spell_entry, spell_declarations, room_for_one, new_name, fair_dim, fair_end, fair_first, fair_last, is_past_span, with_range, with_dim, dims_judge, ends_of_part, breaks_part, with_part, parts_ends, parts_judge, breaks_dims, dims_of, breaks_domain, domain_of, Declaring, so_far, breaks_entry, value_entry, breaks_entries, value_entries, dim_at, dims_list_at, dims_at, any_number, stretch_at, range_at, part_at, parts_at, domain_at, declaration_at, EntryWord, kind_word, alias_word, entry_token, entry_words, which_word, judge_word, word_at, entry_at, declared_before, entries_at, variables_at, variables_spec}
 use Rattle.mn_references.specs.Conditions.{as_kind}
 use Rattle.mn_references.proofs.Referable.{as_kind_kinds, lesser_kinds}
 use Rattle.mn_decls.proofs.AliasLaw.{alias_spec, alias_law, target_marks}
-use Rattle.mn_decls.proofs.TupleListLaw.{kind_if, heads_known}
+use Rattle.mn_decls.proofs.TupleListLaw.{kind_if}
 
 -- 1. Kinds of conditions
 dim_kinds : (p : Problem) (before : List ℕ) (z : ℤ) (k : Kind) → fair_dim p before z ≡ Some k → is_condition k ≡ true
@@ -425,7 +426,7 @@ rest_law s alias_word = alias_law s.problem (name_kinds s.problem)
 word_law : (s : Declaring) → Lawful (firsts Fixed first_token (λ w. w) judge_word heads.End rest_spec declared_before s) (word_at s)
 unfolding word_at
 word_law s = Lawful-one Fixed first_token (either_value (λ w. w) (λ h. h)) which_word (judge_word s) (inr heads.End) (record {
-  class = either_class entry_token (λ w. w) (which_of entry_token entry_words) head_token (λ h. h) head_of (set_class entry_token entry_words words_known) (set_class head_token all_heads heads_known) no_word;
+  class = either_class entry_token (λ w. w) (which_of entry_token entry_words) head_token (λ h. h) head_of (set_class entry_token entry_words words_known) (set_class head_token all_heads head_known) no_word;
   is_site = ((refl, refl), (head_token heads.End, refl, refl));
   kinds = word_kinds s;
 })

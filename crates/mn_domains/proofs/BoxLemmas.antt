@@ -4,9 +4,10 @@ use Rattle.std.proofs.lemmas.Int.{ints}
 use Rattle.std.specs.List.{AllByRecursion, AllZip}
 use Rattle.mn_model.specs.Domain.{Ascends, Has}
 use Rattle.mn_model.proofs.Stretches.{Has-stretch}
+use Rattle.mn_model.proofs.Ordered.{has_take, above_all}
 use Rattle.mn_boxes.specs.Boxes.{IsBox}
 use Rattle.mn_boxes.specs.Sets.{IsSetOf, IsUnbroken}
-use Rattle.mn_boxes.proofs.Members.{above_all, stands_first}
+use Rattle.mn_boxes.proofs.Members.{stands_first}
 use Rattle.mn_domains.specs.Held.{IsHeld, IsKept, IsShape, IsState, sets_held, sets_of_state, values_held, variable_held}
 use Rattle.mn_domains.specs.Sets.{AreBoxes, Sets}
 use Rattle.mn_domains.specs.declared.shape.Ends.{Ends}
@@ -17,12 +18,6 @@ use Rattle.mn_domains.proofs.Marks.{is_marked}
 use Rattle.mn_domains.proofs.Parts.{Ascends-drop, part_within}
 use Rattle.mn_domains.proofs.ShapeLemmas.{Ascends-held}
 use Rattle.mn_domains.proofs.Standing.{seen}
-
-has_take : (n : ℕ) (xs : List ℤ) (a : ℤ) → Has (take n xs) a → Has xs a
-has_take zero xs a has = absurd has
-has_take (suc n) [] a has = absurd has
-has_take (suc n) (x ∷ xs) a (inl is) = inl is
-has_take (suc n) (x ∷ xs) a (inr later) = inr (has_take n xs a later)
 
 has_drop : (n : ℕ) (xs : List ℤ) (a : ℤ) → Has (drop n xs) a → Has xs a
 has_drop zero xs a has = has

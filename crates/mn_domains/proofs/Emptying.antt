@@ -1,8 +1,10 @@
 -- Changes that would leave nothing, and what stays of a size.
-use Rattle.std.proofs.Common.{◌≡◌, ℕ, zero, suc, ◌<◌, ◌≤◌, ℤ, ◌<ℤ◌, Bool, true, false, int_le, List, [], ◌∷◌, length, filter, get_or, slice_get, Some, refl, sym, subst, ap, ◌∙◌, arith}
+use Rattle.std.proofs.Common.{◌≡◌, ℕ, ◌<◌, ◌≤◌, ℤ, ◌<ℤ◌, Bool, true, false, int_le, List, [], ◌∷◌, length, filter, get_or, slice_get, Some, refl, subst, ap, ◌∙◌, arith}
 use Rattle.std.proofs.lemmas.Int.{ints}
 use Rattle.std.specs.Ordering.{int_eq}
 use Rattle.mn_model.specs.Domain.{Ascends, Has}
+use Rattle.mn_model.proofs.Filtered.{filter_ascends, has_filter}
+use Rattle.mn_model.proofs.Ordered.{le_false}
 use Rattle.mn_boxes.specs.Boxes.{set_of}
 use Rattle.mn_boxes.proofs.Members.{parted, stands_first, stands_last}
 use Rattle.mn_boxes.proofs.Quiet.{ascends_at}
@@ -13,15 +15,9 @@ use Rattle.mn_domains.specs.declared.shape.Ends.{Ends}
 use Rattle.mn_domains.specs.declared.shape.Shape.{Shape}
 use Rattle.mn_domains.specs.declared.state.State.{State}
 use Rattle.mn_domains.proofs.BoxLemmas.{are_boxes}
-use Rattle.mn_domains.proofs.Filtered.{Ascends-filter, eq_so, filter_none, has_filter, is_not_false, le_false}
+use Rattle.mn_domains.proofs.Filtered.{eq_so, filter_none, is_not_false}
 use Rattle.mn_domains.proofs.ShapeLemmas.{Ascends-held}
 use Rattle.mn_domains.proofs.Standing.{ends_at, seen}
-
--- the item that was read
-pub slice_get_here : {X : Type 0} (xs : List X) (i : ℕ) (x : X) → i < length xs → x ≡ get_or xs i x → slice_get xs i ≡ Some x
-slice_get_here [] i x within is = absurd (omega arith)
-slice_get_here (y ∷ xs) zero x within is = ap Some (sym is)
-slice_get_here (y ∷ xs) (suc i) x within is = slice_get_here xs i x (omega arith) is
 
 pub set_ascends : (listed : List ℤ) (shapes : List Shape) (now : State) (saved : List State) (s : Sets) (v : ℕ) → seen listed shapes now saved ≡ s → IsKept listed shapes now saved → Ascends (set_of s.sets v)
 set_ascends listed shapes now saved s v is kept = ascends_at s.vars s.sets v (are_boxes listed shapes now saved s is kept).now
@@ -64,7 +60,7 @@ pub size_less : (listed : List ℤ) (bits : List ℕ) (room : ℕ) (shape : Shap
 size_less listed bits room shape before after p is held new values =
     let xs = values_held listed bits shape before in
     let up : Ascends xs = Ascends-held listed bits room shape before is held.within in
-    let few = (parted (filter p xs) xs (Ascends-filter p xs up) up (λ a has. (has_filter p xs a has).has)).no_more in
+    let few = (parted (filter p xs) xs (filter_ascends p xs up) up (λ a has. (has_filter p xs a has).has)).no_more in
     let old = held.ends.size in
     let size : after.size ≡ length (filter p xs) = new.ends.size ∙ ap length values in
     omega arith

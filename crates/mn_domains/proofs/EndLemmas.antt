@@ -1,15 +1,9 @@
 -- The ends of values.
-use Rattle.std.proofs.Common.{◌≡◌, ℕ, zero, suc, ◌<◌, ℤ, ◌≤ℤ◌, List, [], ◌∷◌, length, slice_get, get_or, Some, refl, arith}
+use Rattle.std.proofs.Common.{◌≡◌, ℤ, ◌≤ℤ◌, List, length}
 use Rattle.mn_model.specs.Domain.{Ascends, Has, IsFirst, IsLast}
 use Rattle.mn_boxes.proofs.Members.{stands_first, stands_last}
 use Rattle.mn_domains.specs.Held.{AreEndsOf}
 use Rattle.mn_domains.specs.declared.shape.Ends.{Ends}
-
--- the value at a place
-pub slice_get_at : (xs : List ℤ) (i : ℕ) (d : ℤ) → i < length xs → slice_get xs i ≡ Some (get_or xs i d)
-slice_get_at [] i d within = absurd (omega arith)
-slice_get_at (x ∷ xs) zero d within = refl
-slice_get_at (x ∷ xs) (suc i) d within = slice_get_at xs i d (omega arith)
 
 -- values with a first one that is at most the last
 pub ends_of : (xs : List ℤ) (e : Ends) → Ascends xs → IsFirst e.lo xs → IsLast e.hi xs → e.size ≡ length xs → AreEndsOf xs e

@@ -5,6 +5,7 @@ use Rattle.std.proofs.lemmas.List.{get_or-drop, get_or-replicate, get_or-take, l
 use Rattle.std.proofs.lemmas.Nat.Bits.{bit_at_ones}
 use Rattle.std.specs.Int.{bit_at, int_gap}
 use Rattle.std.specs.List.{AllByRecursion, AllZip}
+use Rattle.std.proofs.lemmas.Option.{slice_get-get_or}
 use Rattle.mn_model.specs.Domain.{IsFirst, IsLast, stretch}
 use Rattle.mn_model.proofs.Stretches.{Has-stretch, plus-int_gap}
 use Rattle.mn_boxes.specs.Boxes.{count_of}
@@ -16,7 +17,7 @@ use Rattle.mn_domains.specs.declared.state.State.{State}
 use Rattle.mn_domains.specs.declared.shape.Ends.{Ends}
 use Rattle.mn_domains.specs.declared.shape.Shape.{Shape}
 use Rattle.mn_domains.specs.declared.shape.Shape.TheVariants.{Stretch, Listed, Bits}
-use Rattle.mn_domains.proofs.EndLemmas.{ends_of, slice_get_at}
+use Rattle.mn_domains.proofs.EndLemmas.{ends_of}
 use Rattle.mn_domains.proofs.Filtered.{filter_whole}
 
 pub listing_full : (listed : List ℤ) (from to : ℕ) → IsListing listed from to → IsFull listed (Listed from to) (record { lo = get_or listed from (pos 0); hi = get_or listed (to - 1) (pos 0); size = to - from; place = from })
@@ -26,9 +27,9 @@ listing_full listed from to is =
     let within = is.within in
     let long : length xs ≡ to - from = length-take-le (to - from) (drop from listed) (omega (arith, length-drop from listed)) in
     let first : IsFirst (get_or listed from (pos 0)) xs =
-    slice_get_at xs 0 (pos 0) (omega arith) ∙ ap Some (get_or-take (to - from) (drop from listed) 0 (pos 0) (omega arith) ∙ (get_or-drop from listed 0 (pos 0) ∙ ap (λ n. get_or listed n (pos 0)) (omega arith))) in
+    slice_get-get_or xs 0 (pos 0) (omega arith) ∙ ap Some (get_or-take (to - from) (drop from listed) 0 (pos 0) (omega arith) ∙ (get_or-drop from listed 0 (pos 0) ∙ ap (λ n. get_or listed n (pos 0)) (omega arith))) in
     let last : IsLast (get_or listed (to - 1) (pos 0)) xs =
-    slice_get_at xs (length xs - 1) (pos 0) (omega arith) ∙ ap Some (ap (λ n. get_or xs (n - 1) (pos 0)) long ∙ (get_or-take (to - from) (drop from listed) (to - from - 1) (pos 0) (omega arith) ∙ (get_or-drop from listed (to - from - 1) (pos 0) ∙ ap (λ n. get_or listed n (pos 0)) (omega arith)))) in
+    slice_get-get_or xs (length xs - 1) (pos 0) (omega arith) ∙ ap Some (ap (λ n. get_or xs (n - 1) (pos 0)) long ∙ (get_or-take (to - from) (drop from listed) (to - from - 1) (pos 0) (omega arith) ∙ (get_or-drop from listed (to - from - 1) (pos 0) ∙ ap (λ n. get_or listed n (pos 0)) (omega arith)))) in
     record { ends = ends_of xs (record { lo = get_or listed from (pos 0); hi = get_or listed (to - 1) (pos 0); size = to - from; place = from }) is.ascends first last (sym long); full = (refl, omega arith) }
 
 -- all bits are set
@@ -92,10 +93,6 @@ all_more_room listed room more (s ∷ shapes) le is = (more_room listed room mor
 pub sizes-push : (ends : List Ends) (e : Ends) → sizes (ends ++ e ∷ []) ≡ sizes ends + e.size
 sizes-push [] e = omega arith
 sizes-push (f ∷ ends) e = let rest = sizes-push ends e in omega arith
-
-pub all_push : {X : Type 0} (P : X → Type 0) (xs : List X) (x : X) → AllByRecursion P xs → P x → AllByRecursion P (xs ++ x ∷ [])
-all_push P [] x all here = (here, tt)
-all_push P (y ∷ xs) x all here = (all.0, all_push P xs x all.1 here)
 
 -- the state that is made of full ends and set bits
 pub made : (listed : List ℤ) (shapes : List Shape) (room words : ℕ) (s : State) → s.bits.items ≡ replicate words 18446744073709551615 → words ≡ room / 64 + 1 → AllByRecursion (IsShape listed room) shapes → AllZip (IsFull listed) shapes s.ends.items → s.left ≡ sizes s.ends.items

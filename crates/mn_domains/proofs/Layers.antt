@@ -8,6 +8,7 @@ use Rattle.mn_model.specs.Domain.{Ascends, IsDomain, IsValue}
 use Rattle.mn_model.specs.Lawful.{IsLawfulDecl, SuitsKind}
 use Rattle.mn_model.specs.declared.declaration.Decl.{Decl}
 use Rattle.mn_model.specs.declared.variable.Kind.{Kind}
+use Rattle.mn_model.proofs.Lists.{all_push}
 use Rattle.mn_boxes.specs.Sets.{Variable, is_bounded, variable_of}
 use Rattle.mn_domains.specs.Held.{AreApartFrom, IsShape, variable_held}
 use Rattle.mn_domains.specs.Layouts.{AddsShape, AreShapesOf, BeginsAt, Grew, bits_behind, last_behind}
@@ -98,10 +99,6 @@ bits_grow : (b : ℕ) (shape : Shape) → BeginsAt b shape → b ≤ bits_behind
 bits_grow b (Stretch lo hi) begins = omega arith
 bits_grow b (Listed from to) begins = omega arith
 bits_grow b (Bits lo hi at) begins = omega arith
-
-all_push : (P : Shape → Type 0) (shapes : List Shape) (shape : Shape) → AllByRecursion P shapes → P shape → AllByRecursion P (shapes ++ shape ∷ [])
-all_push P [] shape all here = (here, tt)
-all_push P (s ∷ shapes) shape all here = (all.0, all_push P shapes shape all.1 here)
 
 pub shapes_push : (listed more : List ℤ) (shapes : List Shape) (shape : Shape) (bits behind : ℕ) (vars : List Variable) (var : Variable) → AreShapesOf listed shapes bits vars → AddsShape listed more bits behind var shape
     → AreShapesOf more (shapes ++ shape ∷ []) behind (vars ++ var ∷ [])

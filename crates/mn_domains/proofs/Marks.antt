@@ -1,20 +1,18 @@
 -- Values that are marked by bits.
-use Rattle.std.proofs.Common.{◌≡◌, ℕ, suc, ◌+◌, ◌-◌, ◌<◌, ◌≤◌, ℤ, pos, ◌+ℤ◌, ◌-ℤ◌, ◌<ℤ◌, ◌≤ℤ◌, inl, inr, Bool, true, false, true≢false, IsTrue, ◌↔◌, int_le, List, [], ◌∷◌, length, filter, refl, sym, subst, ap, ◌∙◌, arith}
+use Rattle.std.proofs.Common.{◌≡◌, ℕ, ◌+◌, ◌-◌, ◌<◌, ◌≤◌, ℤ, pos, ◌+ℤ◌, ◌-ℤ◌, ◌<ℤ◌, ◌≤ℤ◌, inl, inr, Bool, true, false, true≢false, IsTrue, ◌↔◌, int_le, List, [], ◌∷◌, length, filter, refl, sym, subst, ap, ◌∙◌, arith}
 use Rattle.std.proofs.lemmas.Int.{ints}
 use Rattle.std.specs.Int.{int_gap}
 use Rattle.std.specs.Ordering.{int_eq}
 use Rattle.mn_model.specs.Domain.{Ascends, Has, stretch}
-use Rattle.mn_model.proofs.Stretches.{Ascends-numbers_from, Has-stretch, plus-int_gap}
+use Rattle.mn_model.proofs.Stretches.{Has-stretch, plus-int_gap, Ascends-stretch}
+use Rattle.mn_model.proofs.Filtered.{Passes, filter_ascends, filter_has, has_filter}
+use Rattle.mn_model.proofs.Ordered.{le_false, le_true}
 use Rattle.mn_boxes.proofs.Members.{same_members, is_first, is_last}
 use Rattle.mn_domains.specs.Changes.{is_not}
 use Rattle.mn_domains.specs.Held.{AreEndsOf, IsRow, bit_of, has_bit, marked}
 use Rattle.mn_domains.specs.declared.shape.Ends.{Ends}
 use Rattle.mn_domains.proofs.EndLemmas.{IsBetween, has_hi, has_lo}
-use Rattle.mn_domains.proofs.Filtered.{Ascends-filter, Passes, filter-without, filter_has, filter_single, filter_whole, has_filter, is_filter, le_false, le_true, is_not_so, is_not_true, length-without}
-
-pub Ascends-stretch : (lo hi : ℤ) → Ascends (stretch lo hi)
-unfolding stretch
-Ascends-stretch lo hi = Ascends-numbers_from lo (suc (int_gap lo hi))
+use Rattle.mn_domains.proofs.Filtered.{filter-without, filter_single, filter_whole, is_filter, is_not_so, is_not_true, length-without}
 
 -- ---- bits and values
 
@@ -81,7 +79,7 @@ pub marked_has : (bits : List ℕ) (lo : ℤ) (at : ℕ) (e : Ends) (a : ℤ) �
 marked_has bits lo at e a ordered m = filter_has (has_bit bits lo at) (stretch e.lo e.hi) a ((Has-stretch e.lo e.hi a ordered).1 (m.low, m.high)) m.mark
 
 pub Ascends-marked : (bits : List ℕ) (lo : ℤ) (at : ℕ) (e : Ends) → Ascends (marked bits lo at e)
-Ascends-marked bits lo at e = Ascends-filter (has_bit bits lo at) (stretch e.lo e.hi) (Ascends-stretch e.lo e.hi)
+Ascends-marked bits lo at e = filter_ascends (has_bit bits lo at) (stretch e.lo e.hi) (Ascends-stretch e.lo e.hi)
 
 -- the ends of marked values are marked
 pub low_mark : (bits : List ℕ) (lo : ℤ) (at : ℕ) (e : Ends) → AreEndsOf (marked bits lo at e) e → has_bit bits lo at e.lo ≡ true

@@ -4,12 +4,16 @@ use Rattle.std.proofs.lemmas.Int.{ints, to_z-of_z}
 use Rattle.std.proofs.lemmas.Bool.Decides.{nat_tests}
 use Rattle.std.proofs.lemmas.List.{length-drop, length-take-le, get_or-take, get_or-drop, drop-drop, drop-take, take-take, drop_all}
 use Rattle.std.specs.Ordering.{int_eq}
+use Rattle.std.proofs.lemmas.Bool.{cases_lt}
+use Rattle.std.proofs.lemmas.Option.{slice_get-get_or}
 use Rattle.mn_model.specs.Domain.{Ascends, Has, IsFirst, IsLast}
-use Rattle.mn_boxes.proofs.Members.{above_all, all_above, stands_first, stands_last, is_first, is_last}
+use Rattle.mn_model.proofs.Ordered.{has_at, has_take, above_all, all_above, le_so, le_true}
+use Rattle.mn_model.proofs.Filtered.{filter_ascends, filter_has, has_filter}
+use Rattle.mn_boxes.proofs.Members.{stands_first, stands_last, is_first, is_last}
 use Rattle.mn_domains.specs.Held.{AreEndsOf, part_of}
 use Rattle.mn_domains.specs.declared.shape.Ends.{Ends}
-use Rattle.mn_domains.proofs.EndLemmas.{slice_get_at, ends_of, between_ends, has_hi}
-use Rattle.mn_domains.proofs.Filtered.{Ascends-filter, filter_alike, filter_has, filter_single, has_filter, le_so, le_true}
+use Rattle.mn_domains.proofs.EndLemmas.{ends_of, between_ends, has_hi}
+use Rattle.mn_domains.proofs.Filtered.{filter_alike, filter_single}
 
 -- how long a part is
 pub length-part : (listed : List ℤ) (e : Ends) → e.place + e.size ≤ length listed → length (part_of listed e) ≡ e.size
@@ -29,13 +33,8 @@ pub record CutLow (listed : List ℤ) (e result : Ends) (a : ℤ) (k : ℕ) : Ty
 
 pub skipped_less : (listed : List ℤ) (e : Ends) (a : ℤ) (k : ℕ) → e.place + e.size ≤ length listed → Ascends (part_of listed e) → AreEndsOf (part_of listed e) e → a ≤ℤ e.hi
     → filter (λ x. int_le a x) (part_of listed e) ≡ drop k (part_of listed e) → k < e.size
-skipped_less listed e a k room up ends high rest = by (le_or k e.size)
+skipped_less listed e a k room up ends high rest = by (cases_lt k e.size)
   where
-    le_or : (m n : ℕ) → (m < n) ⊎ (n ≤ m)
-    le_or m zero = inr (omega arith)
-    le_or zero (suc n) = inl (omega arith)
-    le_or (suc m) (suc n) = elim (le_or m n) [ inl h ↦ inl (omega arith) | inr h ↦ inr (omega arith) ]
-
     by : (k < e.size) ⊎ (e.size ≤ k) → k < e.size
     by (inl less) = less
     by (inr past) =
@@ -50,10 +49,10 @@ cut_low_part listed e a k room up ends high rest =
     let within = skipped_less listed e a k room up ends high rest in
     let result : Ends = record { lo = get_or listed (e.place + k) (pos 0); hi = e.hi; size = e.size - k; place = e.place + k } in
     let values : part_of listed result ≡ filter (λ x. int_le a x) (part_of listed e) = sym (rest ∙ drop-part listed e.place e.size k (omega arith)) in
-    let up_there : Ascends (part_of listed result) = subst Ascends (sym values) (Ascends-filter (λ x. int_le a x) (part_of listed e) up) in
+    let up_there : Ascends (part_of listed result) = subst Ascends (sym values) (filter_ascends (λ x. int_le a x) (part_of listed e) up) in
     let long : length (part_of listed result) ≡ e.size - k = length-part listed result (omega arith) in
     let first : IsFirst result.lo (part_of listed result) =
-    slice_get_at (part_of listed result) 0 (pos 0) (omega arith) ∙ ap Some (get_or-take (e.size - k) (drop (e.place + k) listed) 0 (pos 0) (omega arith) ∙ (get_or-drop (e.place + k) listed 0 (pos 0) ∙ ap (λ n. get_or listed n (pos 0)) (omega arith))) in
+    slice_get-get_or (part_of listed result) 0 (pos 0) (omega arith) ∙ ap Some (get_or-take (e.size - k) (drop (e.place + k) listed) 0 (pos 0) (omega arith) ∙ (get_or-drop (e.place + k) listed 0 (pos 0) ∙ ap (λ n. get_or listed n (pos 0)) (omega arith))) in
     let l = stands_last (part_of listed e) e.hi up ends.last in
     let last : IsLast e.hi (part_of listed result) = is_last (part_of listed result) e.hi up_there (record {
       has = subst (λ ys. Has ys e.hi) (sym values) (filter_has (λ x. int_le a x) (part_of listed e) e.hi l.has (le_true a e.hi high));
@@ -78,7 +77,7 @@ cut_high_part listed e a k room up ends low within front =
     let few : k ≤ e.size = omega (arith, length-part listed e room) in
     let same : filter (λ x. int_lt x (a +ℤ pos 1)) (part_of listed e) ≡ filter (λ x. int_le x a) (part_of listed e) = filter_alike (λ x. int_lt x (a +ℤ pos 1)) (λ x. int_le x a) (part_of listed e) (λ x has. le_lt_next x a) in
     let values : part_of listed result ≡ filter (λ x. int_le x a) (part_of listed e) = sym (take-take k e.size (drop e.place listed) few) ∙ (sym front ∙ same) in
-    let up_there : Ascends (part_of listed result) = subst Ascends (sym values) (Ascends-filter (λ x. int_le x a) (part_of listed e) up) in
+    let up_there : Ascends (part_of listed result) = subst Ascends (sym values) (filter_ascends (λ x. int_le x a) (part_of listed e) up) in
     let long : length (part_of listed result) ≡ k = length-part listed result (omega arith) in
     let f = stands_first (part_of listed e) e.lo up ends.first in
     let there : Has (part_of listed result) e.lo = subst (λ ys. Has ys e.lo) (sym values) (filter_has (λ x. int_le x a) (part_of listed e) e.lo f.has (le_true e.lo a low)) in
@@ -88,7 +87,7 @@ cut_high_part listed e a k room up ends low within front =
       others = λ b has. f.others b (has_filter (λ x. int_le x a) (part_of listed e) b (subst (λ ys. Has ys b) values has)).has;
     }) in
     let last : IsLast result.hi (part_of listed result) =
-    slice_get_at (part_of listed result) (length (part_of listed result) - 1) (pos 0) (omega arith)
+    slice_get-get_or (part_of listed result) (length (part_of listed result) - 1) (pos 0) (omega arith)
     ∙ ap Some (ap (λ n. get_or (part_of listed result) (n - 1) (pos 0)) long ∙ (get_or-take k (drop e.place listed) (k - 1) (pos 0) (omega arith) ∙ (get_or-drop e.place listed (k - 1) (pos 0) ∙ ap (λ n. get_or listed n (pos 0)) (omega arith)))) in
     record { some = some; ends = ends_of (part_of listed result) result up_there first last (sym long); values = values }
   where
@@ -119,7 +118,7 @@ alone_part listed e a k room up ends has rest =
     let between = between_ends (part_of listed e) e a up ends has in
     let within = skipped_less listed e a k room up ends between.high rest in
     let left = filter (λ x. int_le a x) (part_of listed e) in
-    let first : slice_get left 0 ≡ Some a = is_first left a (Ascends-filter (λ x. int_le a x) (part_of listed e) up) (record {
+    let first : slice_get left 0 ≡ Some a = is_first left a (filter_ascends (λ x. int_le a x) (part_of listed e) up) (record {
       has = filter_has (λ x. int_le a x) (part_of listed e) a has (le_true a a (omega (arith, ints)));
       others = λ b there. le_so a b (has_filter (λ x. int_le a x) (part_of listed e) b there).passes;
     }) in
@@ -137,12 +136,6 @@ pub Ascends-take : (n : ℕ) (xs : List ℤ) → Ascends xs → Ascends (take n 
 Ascends-take zero xs up = tt
 Ascends-take (suc n) [] up = tt
 Ascends-take (suc n) (x ∷ xs) up = (all_above x (take n xs) (λ a has. above_all x xs a up.0 (has_take n xs a has)), Ascends-take n xs up.1)
-  where
-    has_take : (m : ℕ) (ys : List ℤ) (a : ℤ) → Has (take m ys) a → Has ys a
-    has_take zero ys a has = absurd has
-    has_take (suc m) [] a has = absurd has
-    has_take (suc m) (y ∷ ys) a (inl is) = inl is
-    has_take (suc m) (y ∷ ys) a (inr later) = inr (has_take m ys a later)
 
 pub Ascends-drop : (n : ℕ) (xs : List ℤ) → Ascends xs → Ascends (drop n xs)
 Ascends-drop zero xs up = up
@@ -166,11 +159,6 @@ pub record Searched (xs : List ℤ) (a : ℤ) (k : ℕ) : Type 0 where
   pub there : Has xs a → get_or xs k (pos 0) ≡ a
   pub within : Has xs a → k < length xs
 
-has_get_or : (xs : List ℤ) (i : ℕ) (d : ℤ) → i < length xs → Has xs (get_or xs i d)
-has_get_or [] i d within = absurd (omega arith)
-has_get_or (x ∷ xs) zero d within = inl refl
-has_get_or (x ∷ xs) (suc i) d within = inr (has_get_or xs i d (omega arith))
-
 get_or-first : (xs : List ℤ) (a : ℤ) → slice_get xs 0 ≡ Some a → get_or xs 0 (pos 0) ≡ a
 get_or-first [] a is = cc
 get_or-first (x ∷ xs) a is = cc
@@ -183,13 +171,13 @@ first_dropped (x ∷ xs) (suc k) a is = let less = first_dropped xs k a is in om
 
 pub searched_part : (xs : List ℤ) (a : ℤ) (k : ℕ) → Ascends xs → filter (λ x. int_le a x) xs ≡ drop k xs → Searched xs a k
 searched_part xs a k up rest = record {
-  here = λ within is. subst (Has xs) is (has_get_or xs k (pos 0) within);
+  here = λ within is. subst (Has xs) is (has_at xs k (pos 0) within);
   there = λ has. sym (ap (λ n. get_or xs n (pos 0)) (omega arith)) ∙ (sym (get_or-drop k xs 0 (pos 0)) ∙ get_or-first (drop k xs) a (first has));
   within = λ has. first_dropped xs k a (first has);
 }
   where
     first : Has xs a → slice_get (drop k xs) 0 ≡ Some a
-    first has = ap (λ ys. slice_get ys 0) (sym rest) ∙ is_first (filter (λ x. int_le a x) xs) a (Ascends-filter (λ x. int_le a x) xs up) (record {
+    first has = ap (λ ys. slice_get ys 0) (sym rest) ∙ is_first (filter (λ x. int_le a x) xs) a (filter_ascends (λ x. int_le a x) xs up) (record {
       has = filter_has (λ x. int_le a x) xs a has (le_true a a (omega (arith, ints)));
       others = λ b there. le_so a b (has_filter (λ x. int_le a x) xs b there).passes;
     })

@@ -2,6 +2,7 @@
 use Rattle.std.proofs.Common.{◌≡◌, ℕ, zero, suc, ◌+◌, ◌*◌, ◌<◌, ℤ, Bool, List, [], ◌∷◌, length, map, filter, slice_get, slice_set, get_or, Some, Ok, sym, subst, ap, ◌∙◌, arith}
 use Rattle.std.specs.List.{AllByRecursion, AllZip}
 use Rattle.mn_model.specs.Domain.{Ascends}
+use Rattle.mn_model.proofs.Filtered.{filter_ascends, has_filter}
 use Rattle.mn_boxes.specs.Boxes.{count_of, set_of}
 use Rattle.mn_boxes.specs.Events.{IsMoved}
 use Rattle.mn_boxes.specs.declared.change.Moved.{Moved}
@@ -12,7 +13,6 @@ use Rattle.mn_domains.specs.Sets.{Sets}
 use Rattle.mn_domains.specs.declared.shape.Ends.{Ends}
 use Rattle.mn_domains.specs.declared.shape.Shape.{Shape}
 use Rattle.mn_domains.specs.declared.state.State.{State}
-use Rattle.mn_domains.proofs.Filtered.{Ascends-filter, has_filter}
 use Rattle.mn_domains.proofs.ShapeLemmas.{Ascends-held}
 use Rattle.mn_domains.proofs.Standing.{known, seen, length-sets_held, stands_at}
 
@@ -46,7 +46,7 @@ moved_sets xs p old new moved up before after tells =
       fixed = (λ t. (let f = tells.fixed.0 t in (sym size_new ∙ f.0, λ one. f.1 (size_old ∙ one))), λ f. tells.fixed.1 (size_new ∙ f.0, λ one. f.1 (sym size_old ∙ one)));
       any = (
         λ t same. tells.any.0 t (size_old ∙ (ap length same ∙ sym size_new)),
-        λ differs. tells.any.1 (λ same. differs (sym ((parted (filter p xs) xs (Ascends-filter p xs up) up (λ a has. (has_filter p xs a has).has)).same (sym size_new ∙ (sym same ∙ size_old))))),
+        λ differs. tells.any.1 (λ same. differs (sym ((parted (filter p xs) xs (filter_ascends p xs up) up (λ a has. (has_filter p xs a has).has)).same (sym size_new ∙ (sym same ∙ size_old))))),
       );
     }
 

@@ -4,7 +4,9 @@ use Rattle.std.proofs.lemmas.Int.{ints}
 use Rattle.std.specs.Int.{int_gap}
 use Rattle.std.specs.Ordering.{int_eq}
 use Rattle.mn_model.specs.Domain.{Ascends, Has, IsFirst, IsValue, stretch}
-use Rattle.mn_model.proofs.Stretches.{Has-stretch, IsDomainFrom-stretch, length-stretch, plus-int_gap}
+use Rattle.mn_model.proofs.Stretches.{Has-stretch, IsDomainFrom-stretch, length-stretch, plus-int_gap, Ascends-stretch}
+use Rattle.mn_model.proofs.Ordered.{next_le, le_so, le_true, lt_false, lt_true}
+use Rattle.mn_model.proofs.Filtered.{filter_ascends, filter_has, has_filter}
 use Rattle.mn_boxes.proofs.Members.{is_first, same_members}
 use Rattle.mn_domains.specs.Changes.{is_not}
 use Rattle.mn_domains.specs.Held.{AreEndsOf, IsHeld, IsRoom, IsRow, IsShape, IsSpan, IsWithin, marked, values_held}
@@ -12,8 +14,8 @@ use Rattle.mn_domains.specs.declared.shape.Ends.{Ends}
 use Rattle.mn_domains.specs.declared.shape.Shape.{Shape}
 use Rattle.mn_domains.specs.declared.shape.Shape.TheVariants.{Stretch, Listed, Bits}
 use Rattle.mn_domains.proofs.EndLemmas.{IsBetween, between_ends}
-use Rattle.mn_domains.proofs.Filtered.{Ascends-filter, filter_alike, filter_has, filter_none, filter_single, filter_whole, has_filter, is_filter, is_not_false, is_not_true, lt_false, lt_true, le_so, le_true}
-use Rattle.mn_domains.proofs.Marks.{Ascends-marked, Ascends-stretch, FoundFirst, is_marked, marked_has}
+use Rattle.mn_domains.proofs.Filtered.{filter_alike, filter_none, filter_single, filter_whole, is_filter, is_not_false, is_not_true}
+use Rattle.mn_domains.proofs.Marks.{Ascends-marked, FoundFirst, is_marked, marked_has}
 use Rattle.mn_domains.proofs.Parts.{Ascends-part}
 
 -- ---- stretches
@@ -41,7 +43,7 @@ stretch_alone lo hi a ordered has =
     ∙ sym (filter_single (stretch lo hi) a (Ascends-stretch lo hi) has)
 
 pub stretch_first : (lo hi a : ℤ) → lo ≤ℤ a → a ≤ℤ hi → IsFirst a (filter (λ x. int_le a x) (stretch lo hi))
-stretch_first lo hi a low high = is_first (filter (λ x. int_le a x) (stretch lo hi)) a (Ascends-filter (λ x. int_le a x) (stretch lo hi) (Ascends-stretch lo hi)) (record {
+stretch_first lo hi a low high = is_first (filter (λ x. int_le a x) (stretch lo hi)) a (filter_ascends (λ x. int_le a x) (stretch lo hi) (Ascends-stretch lo hi)) (record {
   has = filter_has (λ x. int_le a x) (stretch lo hi) a ((Has-stretch lo hi a (omega (arith, ints))).1 (low, high)) (le_true a a (omega (arith, ints)));
   others = λ b has. le_so a b (has_filter (λ x. int_le a x) (stretch lo hi) b has).passes;
 })
@@ -53,7 +55,7 @@ value_between lo hi a low high from to = (omega (arith, ints, low.0, from), omeg
 -- ---- marked values
 
 pub marked_first : (bits : List ℕ) (lo : ℤ) (at : ℕ) (e : Ends) (a value : ℤ) → e.lo ≤ℤ a → a ≤ℤ e.hi → FoundFirst bits lo at a e.hi value → IsFirst value (filter (λ x. int_le a x) (marked bits lo at e))
-marked_first bits lo at e a value low high found = is_first (filter (λ x. int_le a x) (marked bits lo at e)) value (Ascends-filter (λ x. int_le a x) (marked bits lo at e) (Ascends-marked bits lo at e)) (record {
+marked_first bits lo at e a value low high found = is_first (filter (λ x. int_le a x) (marked bits lo at e)) value (filter_ascends (λ x. int_le a x) (marked bits lo at e) (Ascends-marked bits lo at e)) (record {
   has = filter_has (λ x. int_le a x) (marked bits lo at e) value (marked_has bits lo at e value (omega (arith, ints)) (record { low = omega (arith, ints, low, found.from); high = found.within; mark = found.mark })) (le_true a value found.from);
   others = others;
 })
@@ -152,9 +154,6 @@ all_greater listed bits room shape e a is held below = filter_whole (λ x. int_l
 pub none_greater : (listed : List ℤ) (bits : List ℕ) (room : ℕ) (shape : Shape) (e : Ends) (a : ℤ) → IsShape listed room shape → IsHeld listed bits shape e → e.hi ≤ℤ a → filter (λ x. int_lt a x) (values_held listed bits shape e) ≡ []
 none_greater listed bits room shape e a is held above = filter_none (λ x. int_lt a x) (values_held listed bits shape e)
     (λ b has. let t = between_ends (values_held listed bits shape e) e b (Ascends-held listed bits room shape e is held.within) held.ends has in lt_false a b (omega (arith, ints, t.high, above)))
-
-next_le : (a x : ℤ) → int_le (a +ℤ pos 1) x ≡ int_lt a x
-next_le a x = grind (arith, ints)
 
 pub greater_is_next : (xs : List ℤ) (a : ℤ) → filter (λ x. int_le (a +ℤ pos 1) x) xs ≡ filter (λ x. int_lt a x) xs
 greater_is_next xs a = filter_alike (λ x. int_le (a +ℤ pos 1) x) (λ x. int_lt a x) xs (λ x has. next_le a x)

@@ -6,6 +6,7 @@ use Rattle.std.specs.Int.{int_gap}
 use Rattle.std.specs.List.{AllByRecursion, AllZip}
 use Rattle.mn_model.specs.Domain.{Has, stretch}
 use Rattle.mn_model.proofs.Stretches.{Has-stretch, plus-int_gap}
+use Rattle.mn_model.proofs.Filtered.{Passes}
 use Rattle.mn_boxes.specs.Boxes.{count_of, set_of}
 use Rattle.mn_boxes.specs.Events.{IsMoved}
 use Rattle.mn_boxes.specs.Sets.{IsEnd, MayGo, Variable}
@@ -18,7 +19,7 @@ use Rattle.mn_domains.specs.declared.shape.Ends.{Ends}
 use Rattle.mn_domains.specs.declared.shape.Shape.{Shape}
 use Rattle.mn_domains.specs.declared.shape.Shape.TheVariants.{Stretch, Listed, Bits}
 use Rattle.mn_domains.specs.declared.state.State.{State}
-use Rattle.mn_domains.proofs.Filtered.{Passes, filter_alike, is_filter, is_not_so, is_not_true, length-without}
+use Rattle.mn_domains.proofs.Filtered.{filter_alike, is_filter, is_not_so, is_not_true, length-without}
 use Rattle.mn_domains.proofs.Marks.{Ascends-marked, high_mark, is_marked, low_mark, marked_ends, marked_has}
 use Rattle.mn_domains.proofs.Put.{PutAt, changed_put, count_of-set, kept_put, moved_sets}
 use Rattle.mn_domains.proofs.ShapeLemmas.{without_none}

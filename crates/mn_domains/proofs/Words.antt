@@ -1,5 +1,5 @@
 -- One bit of a row of words.
-use Rattle.std.proofs.Common.{◌≡◌, ◌≢◌, ℕ, zero, suc, ◌+◌, ◌-◌, ◌*◌, ◌/◌, ◌%◌, ◌^◌, ◌<◌, ◌≤◌, ◌==◌, nat_eq, nat_lt, Bool, true, false, true≢false, List, length, slice_index_or, bit_and, refl, sym, ap, ◌∙◌, ◌⊎◌, inl, inr, arith}
+use Rattle.std.proofs.Common.{◌≡◌, ◌≢◌, ℕ, zero, suc, ◌+◌, ◌-◌, ◌*◌, ◌/◌, ◌%◌, ◌^◌, ◌<◌, ◌≤◌, ◌==◌, nat_eq, Bool, true, false, true≢false, List, length, slice_index_or, bit_and, refl, sym, ap, ◌∙◌, ◌⊎◌, inl, inr, arith}
 use Rattle.std.specs.Int.{bit_at, bit_not, trailing_zeros}
 use Rattle.std.proofs.lemmas.Bool.Decides.{nat_tests}
 use Rattle.std.proofs.lemmas.List.{get_or-set_same, get_or-set_other}
@@ -7,6 +7,7 @@ use Rattle.std.proofs.lemmas.Nat.{div-add-mod', pow-add, shr_le, trailing_le}
 use Rattle.std.proofs.lemmas.Nat.Bits.{bit_at-trailing_zeros, bit_at-zero, bit_at_above, bit_at_cat_low, bit_at_clear_same, bit_at_clear_other}
 use Rattle.std.proofs.Math.Nat.{div-div-eq-div-mul, div-eq_of_lt-le, mod-eq_of_lt, mod-lt, one-le-pow, pow-le-pow_right}
 use Rattle.std.proofs.Math.Pow.{pow-lt}
+use Rattle.std.proofs.lemmas.Bool.{cases_lt}
 use Rattle.mn_domains.specs.Held.{bit_of, cleared}
 use mir.Syntax.{w64}
 use mir.Val.{bits}
@@ -48,13 +49,6 @@ bit_of-cleared_other words i k room differs = by (same_or_not (k / 64) (i / 64))
 
 -- ---- the first set bit
 
-side : (a b : ℕ) → (a < b) ⊎ (b ≤ a)
-side a b = by (nat_lt a b) refl
-  where
-    by : (t : Bool) → nat_lt a b ≡ t → (a < b) ⊎ (b ≤ a)
-    by true e = inl (grind (arith, nat_tests))
-    by false e = inr (grind (arith, nat_tests))
-
 -- a bit of a word that was shifted
 bit_at-shifted : (n k t : ℕ) → bit_at (n / 2 ^ k) t ≡ bit_at n (k + t)
 bit_at-shifted n k t = ap (λ m. m % 2) (div-div-eq-div-mul n (2 ^ k) (2 ^ t) ∙ ap (λ m. n / m) (sym (pow-add 2 k t)))
@@ -76,7 +70,7 @@ pub record FirstSet (words : List ℕ) (i found : ℕ) : Type 0 where
   pub none : (k : ℕ) → i ≤ k → k < found → bit_of words k ≡ false
 
 pub within_first : (words : List ℕ) (i end found : ℕ) → i ≤ end → bit_of words end ≡ true → FirstSet words i found → found ≤ end
-within_first words i end found order set first = by (side end found)
+within_first words i end found order set first = by (cases_lt end found)
   where
     by : (end < found) ⊎ (found ≤ end) → found ≤ end
     by (inl less) = absurd (true≢false (sym set ∙ first.none end order less))
@@ -99,7 +93,7 @@ first_here words i fits some =
     }
   where
     room : (b : ℕ) → bit_at (slice_index_or words (i / 64) 0) b ≡ 1 → b < 64
-    room b one = by (side b 64)
+    room b one = by (cases_lt b 64)
       where
         by : (b < 64) ⊎ (64 ≤ b) → b < 64
         by (inl less) = less
@@ -122,7 +116,7 @@ pub record LaterWord (words : List ℕ) (i end : ℕ) : Type 0 where
 
 pub later_word : (words : List ℕ) (i end : ℕ) → i ≤ end → bit_of words end ≡ true → slice_index_or words (i / 64) 0 / 2 ^ (i % 64) ≡ 0 → LaterWord words i end
 later_word words i end order set none = record {
-  order = by (side (i / 64) (end / 64));
+  order = by (cases_lt (i / 64) (end / 64));
   some = λ zero_there. true≢false (sym set ∙ zero_word words end zero_there);
 }
   where
@@ -139,7 +133,7 @@ first_later words i q rest order fits some none =
     record {
       from = omega arith;
       set = bit_in words q t z.0 ∙ ap (λ b. b == 1) z.1;
-      none = λ n low high. before n low high (side (i / 64) (n / 64)) (side (n / 64) q) z.2;
+      none = λ n low high. before n low high (cases_lt (i / 64) (n / 64)) (cases_lt (n / 64) q) z.2;
     }
   where
     positive : (n : ℕ) → n ≢ 0 → 0 < n
@@ -174,7 +168,7 @@ pub record LastSet (words : List ℕ) (i found : ℕ) : Type 0 where
   pub none : (k : ℕ) → found < k → k ≤ i → bit_of words k ≡ false
 
 pub within_last : (words : List ℕ) (i start found : ℕ) → start ≤ i → bit_of words start ≡ true → LastSet words i found → start ≤ found
-within_last words i start found order set last = by (side found start)
+within_last words i start found order set last = by (cases_lt found start)
   where
     by : (found < start) ⊎ (start ≤ found) → start ≤ found
     by (inl less) = absurd (true≢false (sym set ∙ last.none start less order))
@@ -186,12 +180,12 @@ last_here words i t clear low high =
     let w = slice_index_or words (i / 64) 0 in
     let k = i % 64 in
     let small : w % 2 ^ k < 2 ^ k = mod-lt w (omega (arith, one-le-pow k 2 (omega arith))) in
-    let below = less_power (side t k) (omega (arith, low, small)) in
+    let below = less_power (cases_lt t k) (omega (arith, low, small)) in
     let h = highest (w % 2 ^ k) t low high in
     record {
       upto = omega arith;
       set = bit_in words (i / 64) t (omega arith) ∙ ap (λ b. b == 1) (bit_at-low w k t below ∙ h.set);
-      none = λ n more upto. between n more upto (side n i) h.above;
+      none = λ n more upto. between n more upto (cases_lt n i) h.above;
     }
   where
     less_power : (t < i % 64) ⊎ (i % 64 ≤ t) → 2 ^ t < 2 ^ (i % 64) → t < i % 64
@@ -205,7 +199,7 @@ last_here words i t clear low high =
 
 -- or in an earlier word
 no_low : (words : List ℕ) (i n : ℕ) → bit_of words i ≡ false → slice_index_or words (i / 64) 0 % 2 ^ (i % 64) ≡ 0 → n ≤ i → n / 64 ≡ i / 64 → bit_of words n ≡ false
-no_low words i n clear none upto same = by (side n i)
+no_low words i n clear none upto same = by (cases_lt n i)
   where
     by : (n < i) ⊎ (i ≤ n) → bit_of words n ≡ false
     by (inr is) = ap (bit_of words) (omega arith) ∙ clear
@@ -218,7 +212,7 @@ pub record EarlierWord (words : List ℕ) (i start : ℕ) : Type 0 where
 
 pub earlier_word : (words : List ℕ) (i start : ℕ) → start ≤ i → bit_of words start ≡ true → bit_of words i ≡ false → slice_index_or words (i / 64) 0 % 2 ^ (i % 64) ≡ 0 → EarlierWord words i start
 earlier_word words i start order set clear none = record {
-  order = by (side (start / 64) (i / 64));
+  order = by (cases_lt (start / 64) (i / 64));
   some = λ zero_there. true≢false (sym set ∙ zero_word words start zero_there);
 }
   where
@@ -233,7 +227,7 @@ last_earlier words i q t clear rest order small low high none =
     record {
       upto = omega arith;
       set = bit_in words q t small ∙ ap (λ b. b == 1) h.set;
-      none = λ n more upto. behind n more upto (side (n / 64) (i / 64)) (side q (n / 64)) h.above;
+      none = λ n more upto. behind n more upto (cases_lt (n / 64) (i / 64)) (cases_lt q (n / 64)) h.above;
     }
   where
     behind : (n : ℕ) → q * 64 + t < n → n ≤ i → (n / 64 < i / 64) ⊎ (i / 64 ≤ n / 64) → (q < n / 64) ⊎ (n / 64 ≤ q) → ((j : ℕ) → t < j → bit_at (slice_index_or words q 0) j ≡ 0) → bit_of words n ≡ false

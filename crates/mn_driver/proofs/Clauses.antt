@@ -22,6 +22,7 @@ use Rattle.mn_driver.specs.declared.status.Status.TheVariants.{Complete, Printed
 use Rattle.mn_options.specs.Rules.{first_broken}
 use Rattle.mn_options.specs.declared.usage.Usage.{Usage as Rule}
 use Rattle.mn_driver.proofs.Verdicts.{OneVerdict, never_both, one_refusal_of}
+use Rattle.mn_driver.proofs.Flushed.{map_asked}
 
 -- one text is told of a name
 some_text : {a b : List ℕ} → Some a ≡ Some b → a ≡ b
@@ -206,10 +207,6 @@ unread_status false status e = inr (inr (inl e))
 spent_status : (redump : Bool) (status : Status) → status ≡ NoMemory → IsModelStatus redump status
 spent_status true status e = inr (inr (inr e))
 spent_status false status e = inr (inr (inr e))
-
-map_asked : {P Q : Asked → Type 0} (asks : Option Asked) → ((a : Asked) → P a → Q a) → IsSomeAnd asks P → IsSomeAnd asks Q
-map_asked None f p = p
-map_asked (Some a) f p = f a p
 
 -- where the words ask for something, what was told is of that
 asked_so : (P : Asked → Type 0) (asks : Option Asked) (a : Asked) → asks ≡ Some a → IsSomeAnd asks P → P a

@@ -119,7 +119,7 @@ module _ (old new : Option (List ℕ)) (before after later : ℕ) (kept : before
     either_failed risen a status counts (inr lost) =
         inr (subst (λ s. Lost told words unread read old new before later a s counts) (sym (refuses_later lost.why status lost.refuses).0) (lost_later a status counts lost))
 
-map_asked : {P Q : Asked → Type 0} (asks : Option Asked) → ((a : Asked) → P a → Q a) → IsSomeAnd asks P → IsSomeAnd asks Q
+pub map_asked : {P Q : Asked → Type 0} (asks : Option Asked) → ((a : Asked) → P a → Q a) → IsSomeAnd asks P → IsSomeAnd asks Q
 map_asked None f p = p
 map_asked (Some a) f p = f a p
 

@@ -5,6 +5,7 @@ use Rattle.std.specs.List.{AllByRecursion}
 use Rattle.mn_model.specs.Decided.{Decided, decide_nat}
 use Rattle.mn_model.specs.declared.constraint.Con.{Con}
 use Rattle.mn_model.specs.declared.declaration.Tuples.{Tuples}
+use Rattle.mn_model.proofs.Lists.{all_at}
 use Rattle.mn_boxes.specs.Boxes.{IsBox}
 use Rattle.mn_boxes.specs.Sets.{Variable}
 use Rattle.mn_domains.specs.Sets.{Sets}
@@ -74,11 +75,6 @@ module _ {P : Type 0} (con_of : P → Con) (lists_of : P → List Tuples) where
   stood_at (x ∷ xs) [] i y alike at = absurd alike
   stood_at (x ∷ xs) (w ∷ ys) zero y alike at = let is : w ≡ y = cc in record { first = x; stood = refl; con_is = sym (ap con_of is) ∙ alike.0.0; lists_are = sym (ap lists_of is) ∙ alike.0.1 }
   stood_at (x ∷ xs) (w ∷ ys) (suc i) y alike at = let rest = stood_at xs ys i y alike.1 at in record { first = rest.first; stood = rest.stood; con_is = rest.con_is; lists_are = rest.lists_are }
-
-  pub all_at : (Q : P → Type 0) (xs : List P) (i : ℕ) (x : P) → AllByRecursion Q xs → slice_get xs i ≡ Some x → Q x
-  all_at Q [] i x all at = cc
-  all_at Q (y ∷ xs) zero x all at = let is : y ≡ x = cc in subst Q is all.0
-  all_at Q (y ∷ xs) (suc i) x all at = all_at Q xs i x all.1 at
 
   all_from : (Q : P → Type 0) (xs : List P) → ((k : ℕ) (x : P) → slice_get xs k ≡ Some x → Q x) → AllByRecursion Q xs
   all_from Q [] each = tt

@@ -101,9 +101,9 @@ token_then site t c b = record {
   any = b.any;
 }
 
-none_of : (c : Option Kind) → on c ≡ [] → c ≡ None
-none_of None e = refl
-none_of (Some kind) e = cc
+pub on_kept : (c : Option Kind) → on c ≡ [] → c ≡ None
+on_kept None e = refl
+on_kept (Some kind) e = cc
 
 -- what follows is lawful at least where the condition is kept
 pub Lawful-token_then :
@@ -124,7 +124,7 @@ Lawful-token_then site t c read b rb token sound law =
       start = refl;
     })
     (then_read read (λ u. rb))
-    (Lawful-then one (λ u. b) (join_leaf site (λ u. t) (λ u. u) (λ u. c) tt (λ u. b)) read (λ u. rb) token (λ u. sound) (λ u kept. law (none_of c kept)))
+    (Lawful-then one (λ u. b) (join_leaf site (λ u. t) (λ u. u) (λ u. c) tt (λ u. b)) read (λ u. rb) token (λ u. sound) (λ u kept. law (on_kept c kept)))
 
 -- a mark with a condition on it, and what follows
 abbrev pub mark_then : {Y W : Type 0} → Mark → Option Kind → Spec Y W → Spec Y W

@@ -1,5 +1,5 @@
 -- Constraints are read lawfully, those with others inside to a depth.
-use Rattle.std.proofs.Common.{◌≡◌, ℕ, zero, suc, ◌<◌, Bool, true, false, List, [], ◌∷◌, length, ◌++◌, codes, Option, Some, None, refl, sym, ap, subst, ◌&&◌, ◌||◌, ◌∙◌, arith, append-nil}
+use Rattle.std.proofs.Common.{◌≡◌, ℕ, zero, suc, ◌<◌, Bool, true, false, List, [], ◌∷◌, length, ◌++◌, codes, Option, Some, None, refl, sym, ap, subst, ◌∙◌, arith, append-nil}
 use Rattle.mn_lexer.specs.Terminals.{Terminal, word, mark}
 use Rattle.mn_lexer.specs.declared.marks.Mark.TheVariants.{OpenCurly, CloseCurly, OpenRound, CloseRound, Comma}
 use Rattle.mn_model.specs.Problem.{Problem}
@@ -17,7 +17,7 @@ use Rattle.mn_grammar.proofs.Classes.{Lawful-one_of}
 use Rattle.mn_grammar.proofs.Joins.{joined, Lawful-then}
 use Rattle.mn_grammar.proofs.Steps.{join_leaf, join_mark, mark_then, Lawful-mark_then, mark_last, Lawful-mark_last}
 use Rattle.mn_grammar.proofs.Views.{IsView}
-use Rattle.mn_grammar.proofs.Items.{maybe_spec, Lawful-maybe}
+use Rattle.mn_grammar.proofs.Items.{maybe_spec, Lawful-maybe, nothing_on}
 use Rattle.mn_grammar.proofs.Nested.{unread, Sound-unread, behind_name, nest_law}
 use Rattle.mn_grammar.specs.declared.site.Site.TheVariants.{Fixed, MarksOnly}
 use Rattle.mn_grammar.specs.declared.Kind.{Kind}
@@ -113,11 +113,6 @@ name_law d s = Lawful-one_of Fixed form_token all_forms (at_form d s) (of_leaf f
 front_nil : (l m : List Terminal) → (l ≡ [] → ⊥) → l ++ m ≡ [] → ⊥
 front_nil [] m solid e = solid refl
 front_nil (t ∷ l) m solid e = cc
-
--- where a mark follows a 0/1 term, nothing goes on with what is whole
-and_none : (b : Bool) → ((b && false) || false) ≡ false
-and_none true = refl
-and_none false = refl
 
 -- 2. What follows a name
 abbrev pub Behind : Form → Type 0
@@ -398,7 +393,7 @@ module _ (p : Problem) where
   view_blocks zero s (of_gather g) y t = refl
   view_blocks (suc d) s (of_gather g) y t = refl
   view_blocks zero s (of_tie u) y t = refl
-  view_blocks (suc d) s (of_tie u) y t = sym (and_none (blocks_entry y.1.0 t))
+  view_blocks (suc d) s (of_tie u) y t = sym (nothing_on (blocks_entry y.1.0 t))
 
   view : (d : ℕ) (s : Before) → IsView (pairs p d s) (constraint_spec p d s)
   view d s = record {

@@ -2,8 +2,8 @@
 use Rattle.std.proofs.Common.{◌≡◌, ℕ, ℤ, suc, ◌+◌, ◌*◌, ◌≤◌, ◌==◌, ltb, Bool, true, false, not, ◌&&◌, ◌||◌, List, [], ◌∷◌, ◌++◌, length, slice_get, Option, Some, None, refl, sym, ap, ◌∙◌, subst, arith, cond, bytes_eq, append_assoc, length-append}
 use Rattle.std.specs.List.{AllByRecursion}
 use Rattle.std.specs.Option.{option_map}
-use Rattle.std.proofs.lemmas.Bool.{or_parts}
-use Rattle.std.proofs.lemmas.Bool.Decides.{nat_tests}
+use Rattle.std.proofs.lemmas.Bool.{or_parts, eqb-true, not-false}
+use Rattle.std.proofs.lemmas.List.{length_push}
 use Rattle.mn_lexer.specs.Terminals.{mark}
 use Rattle.mn_lexer.specs.declared.marks.Mark.{Mark}
 use Rattle.mn_lexer.specs.declared.marks.Mark.TheVariants.{CloseSquare, CloseCurly, CloseRound, Greater, Comma}
@@ -15,17 +15,19 @@ use Rattle.mn_model.specs.declared.constraint.Tab.{Tab}
 use Rattle.mn_model.specs.declared.constraint.Tab.TheVariants.{Here}
 use Rattle.mn_model.specs.declared.declaration.Tuples.{Tuples}
 use Rattle.mn_model.specs.declared.limits.TheConstants.{CELLS}
+use Rattle.mn_model.proofs.Lists.{all_append, all_back, all_front}
 use Rattle.mn_grammar.specs.Places.{on, behind}
 use Rattle.mn_grammar.specs.Lists.{Items, final, also, spell_items, breaks_items, value_items}
 use Rattle.mn_grammar.specs.Rows.{Arguments, breaks_more, values_more, breaks_row, values_row}
 use Rattle.mn_grammar.specs.declared.Kind.TheVariants.{Shape, Limit}
 use Rattle.mn_grammar.specs.declared.Limit.TheVariants.{Cells}
+use Rattle.mn_grammar.proofs.Steps.{on_kept}
 use Rattle.mn_references.specs.Entries.{a_term, value_entry, Placed}
 use Rattle.mn_language.specs.Arguments.{Value, length_of, length_wanted, behind_value, behind_last, terms_in, numbers_in, number_in, tuples_in, term_of, vector_wanted, numbers_wanted, Wanted, exactly, is_full, is_short, is_odd, at_one, at_another, at_close, number_judge, with_number, spell_number, spell_numbers, breaks_numbers, value_numbers, Table, named, here, spell_tuple, at_tuple, value_tuple, tuple_judge, with_tuple, at_list, list_place, spell_table, breaks_table, value_table, Written, spell_argument, breaks_argument, value_argument, spell_arguments, arguments}
 use Rattle.mn_language.specs.declared.forms.Argument.{Argument}
 use Rattle.mn_language.specs.declared.forms.Argument.TheVariants as takes
 use Rattle.mn_language.specs.declared.forms.Places.{Places}
-use Rattle.mn_references.proofs.Unbroken.{on_kept, token_kept, part_kept, behind_kept, when_kept, as_kind_kept, not_false, not_less, not_at_most, all_append, all_front, all_back}
+use Rattle.mn_references.proofs.Unbroken.{token_kept, part_kept, behind_kept, when_kept, as_kind_kept, not_less, not_at_most}
 use Rattle.mn_references.proofs.LawfulVectors.{IsFairToken, AreFair, IsTerm, IsVector, IsOne, entry_comes, term_one, vector_good}
 
 -- 1. Lists of numbers
@@ -47,9 +49,6 @@ in_pairs : (b : Bool) (zs : List ℤ) → (b && is_odd (length zs)) ≡ false �
 in_pairs true zs e f = even_of zs e
 in_pairs false zs e f = cc
 
-longer : (before : List ℤ) (z : ℤ) → length (before ++ z ∷ []) ≡ length before + 1
-longer before z = length-append before (z ∷ [])
-
 as_many : (o : Option ℕ) (n k m : ℕ) → k ≡ n + 1 → is_full o n ≡ false → is_short o k ≡ false → o ≡ Some m → k ≡ m
 as_many None n k m same full short e = cc
 as_many (Some j) n k m same full short e =
@@ -70,7 +69,7 @@ items_good shut w (final z) before valued kept fair =
     let ends = or_parts (is_short w.count (length zs)) (w.paired && is_odd (length zs)) (when_kept (is_short w.count (length zs) || (w.paired && is_odd (length zs))) Shape (on_kept (at_close w (length zs)) parts.1)) in
     record {
       valued = all_append IsValue before (z ∷ []) valued (fair.0, tt);
-      counted = λ m e. as_many w.count (length before) (length zs) m (longer before z) full ends.0 e;
+      counted = λ m e. as_many w.count (length before) (length zs) m (length_push before z) full ends.0 e;
       even = in_pairs w.paired zs ends.1;
     }
 items_good shut w (also z l) before valued kept fair =
@@ -130,14 +129,11 @@ place_is : (ts : List Tuples) (name : List ℕ) (x : Tuples) → listed_as ts na
 place_is [] name x e = cc
 place_is (t ∷ ts) name x e = place_by t x ts name (listed_as ts name) (bytes_eq name t.name) e (place_is ts name x)
 
-same_number : (m n : ℕ) → (m == n) ≡ true → m ≡ n
-same_number m n e = grind (arith, nat_tests)
-
 named_suits : (ts : List Tuples) (name : List ℕ) (n : ℕ) (o : Option Tuples) → listed_as ts name ≡ o → at_list n o ≡ None → option_map (λ t. t.arity) (slice_get ts (list_place ts name)) ≡ Some n
 named_suits ts name n None e kept = cc
 named_suits ts name n (Some t) e kept =
     ap (option_map (λ t. t.arity)) (place_is ts name t e)
-    ∙ ap (λ k. Some k) (same_number t.arity n (not_false (t.arity == n) (when_kept (not (t.arity == n)) Shape kept)))
+    ∙ ap (λ k. Some k) (eqb-true t.arity n (not-false (t.arity == n) (when_kept (not (t.arity == n)) Shape kept)))
 
 pub record IsTable (p : Problem) (used n : ℕ) (tab : Tab) : Type 0 where
   pub suits : SuitsTable p.tuples (n, tab)
@@ -177,6 +173,11 @@ Fits p used takes.Tuples vs v = IsTable p used (length_wanted vs) (tuples_in (So
 one_fits : (p : Problem) (v : Placed) → IsOne p false v.terms → IsTerm p (term_of v.terms)
 one_fits p v one = subst (λ terms. IsTerm p (term_of terms)) (sym one.only) one.lawful
 
+pub last_is : (vs : List Value) (v : Value) → behind_last (vs ++ v ∷ []) ≡ behind_value v
+last_is [] v = refl
+last_is (w ∷ []) v = refl
+last_is (w ∷ x ∷ vs) v = last_is (x ∷ vs) v
+
 module _ (p : Problem) (lawful : IsLawful p) (used : ℕ) (fits : used ≤ CELLS) where
   argument_fits : (k : Argument) (vs : List Value) (a : Written k) → breaks_argument p used k vs a ≡ [] → behind_value (value_argument p used k vs a) ≡ None → AreFair (spell_argument k a) → Fits p used k vs (value_argument p used k vs a)
   argument_fits takes.Term vs e kept ends fair =
@@ -200,11 +201,6 @@ module _ (p : Problem) (lawful : IsLawful p) (used : ℕ) (fits : used ≤ CELLS
   abbrev pub collected : (row : List Argument) (before : List Value) → Fitting row before → List Value
   collected [] before f = []
   collected (k ∷ ks) before f = f.value ∷ collected ks (before ++ f.value ∷ []) f.others
-
-  last_is : (vs : List Value) (v : Value) → behind_last (vs ++ v ∷ []) ≡ behind_value v
-  last_is [] v = refl
-  last_is (w ∷ []) v = refl
-  last_is (w ∷ x ∷ vs) v = last_is (x ∷ vs) v
 
   abbrev Row : (k : Argument) (others : List Argument) (vs : List Value) → Arguments Written (k ∷ others) → Type 0
   Row k others vs a = (f : Fitting (k ∷ others) vs) × (values_more (arguments p used) k others vs a ≡ vs ++ collected (k ∷ others) vs f)

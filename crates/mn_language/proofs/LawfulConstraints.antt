@@ -14,12 +14,14 @@ use Rattle.mn_model.specs.declared.constraint.Con.TheVariants.{End}
 use Rattle.mn_model.specs.declared.constraint.Cons.{Cons}
 use Rattle.mn_model.specs.declared.constraint.Term.{Term}
 use Rattle.mn_model.specs.declared.limits.TheConstants.{CELLS, CONSTRAINTS, NESTING}
-use Rattle.mn_model.proofs.Kept.{total-push, AllByRecursion-push}
+use Rattle.mn_model.proofs.Kept.{total-push}
+use Rattle.mn_model.proofs.Lists.{all_append, all_back, all_front, all_push}
 use Rattle.mn_grammar.specs.Places.{when, on, behind}
 use Rattle.mn_grammar.specs.Rows.{breaks_row}
 use Rattle.mn_grammar.specs.Lawful.{Said}
 use Rattle.mn_grammar.specs.declared.Kind.TheVariants.{Limit}
 use Rattle.mn_grammar.specs.declared.Limit.TheVariants.{Constraints as OfConstraints}
+use Rattle.mn_grammar.proofs.Steps.{on_kept}
 use Rattle.mn_references.specs.Conditions.{as_kind}
 use Rattle.mn_references.specs.Entries.{spell_entry, breaks_entry, value_entry, a_term, Placed}
 use Rattle.mn_language.specs.Arguments.{term_of, arguments}
@@ -34,7 +36,7 @@ use Rattle.mn_language.specs.declared.forms.Gather.TheVariants.{Or, And}
 use Rattle.mn_language.specs.declared.forms.Leaf.{Leaf}
 use Rattle.mn_language.specs.declared.forms.Tie.{Tie}
 use Rattle.mn_language.specs.declared.forms.Tie.TheVariants.{Reify, Reifyimply}
-use Rattle.mn_references.proofs.Unbroken.{on_kept, token_kept, part_kept, behind_kept, when_kept, as_kind_kept, lesser_kept, not_at_most, all_append, all_front, all_back}
+use Rattle.mn_references.proofs.Unbroken.{token_kept, part_kept, behind_kept, when_kept, as_kind_kept, lesser_kept, not_at_most}
 use Rattle.mn_references.proofs.LawfulVectors.{IsFairToken, AreFair, IsTerm, IsBitTerm, IsOne, entry_comes, term_one}
 use Rattle.mn_language.proofs.LawfulArguments.{row_fits}
 use Rattle.mn_language.proofs.LawfulForms.{IsKept, leaf_kept}
@@ -194,7 +196,7 @@ module _ (p : Problem) (lawful : IsLawful p) where
         let is = constraint_kept c d (inside (cells_behind n before)) fits kept (all_front IsFairToken (spell_constraint c) (mark CloseCurly ∷ []) fair) in
         let size = total-push cell_count before con in
         let room = is.room in
-        (AllByRecursion-push (IsKept p 0 d) before con all (anywhere p (cells_behind n before) d con is), omega (arith, size, room))
+        (all_push (IsKept p 0 d) before con all (anywhere p (cells_behind n before) d con is), omega (arith, size, room))
     children_kept (child_and c cs) d n before all fits kept fair =
         let con = value_constraint p c (cells_behind n before) in
         let rest = breaks_children p cs d n (before ++ con ∷ []) in
@@ -203,7 +205,7 @@ module _ (p : Problem) (lawful : IsLawful p) where
         let rest_fair = all_back IsFairToken (spell_constraint c) (mark Comma ∷ spell_children cs) fair in
         let size = total-push cell_count before con in
         let room = is.room in
-        children_kept cs d n (before ++ con ∷ []) (AllByRecursion-push (IsKept p 0 d) before con all (anywhere p (cells_behind n before) d con is)) (omega (arith, size, room)) (behind_kept 1 rest parts.1) rest_fair.1
+        children_kept cs d n (before ++ con ∷ []) (all_push (IsKept p 0 d) before con all (anywhere p (cells_behind n before) d con is)) (omega (arith, size, room)) (behind_kept 1 rest parts.1) rest_fair.1
 
   not_full : (d : ℕ) (s : Before) (f : Form) → at_form d s f ≡ None → s.full ≡ false
   not_full d s f kept = when_kept s.full (Limit OfConstraints) (lesser_kept (when s.full (Limit OfConstraints)) (at_inside d f) kept).0

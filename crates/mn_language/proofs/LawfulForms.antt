@@ -7,12 +7,12 @@ use Rattle.mn_model.specs.Parts.{places, bits, constants, vectors, tables, cell_
 use Rattle.mn_model.specs.Problem.{Problem}
 use Rattle.mn_model.specs.declared.constraint.Con.{Con}
 use Rattle.mn_model.specs.declared.limits.TheConstants.{CELLS}
+use Rattle.mn_model.proofs.Lists.{all_append}
 use Rattle.mn_language.specs.Arguments.{terms_in, numbers_in, number_in, tuples_in, term_of}
 use Rattle.mn_language.specs.Constraints.{meaning}
 use Rattle.mn_language.specs.Forms.{form_line}
 use Rattle.mn_language.specs.declared.forms.Leaf.{Leaf}
 use Rattle.mn_language.specs.declared.forms.Leaf.TheVariants as form
-use Rattle.mn_references.proofs.Unbroken.{all_append}
 use Rattle.mn_references.proofs.LawfulVectors.{IsTerm, IsBitTerm}
 use Rattle.mn_language.proofs.LawfulArguments.{Fitting, collected}
 

@@ -1,6 +1,6 @@
 -- Each text has tokens, and something that ends them.
-use Rattle.std.proofs.Common.{◌≡◌, ◌⊎◌, ℕ, zero, suc, ◌+◌, ◌<◌, ◌≤◌, Bool, true, false, List, [], ◌∷◌, length, take, drop, get_or, Option, Some, None, refl, sym, ap, ◌∙◌, subst, inl, inr, ⊎_elim, arith}
-use Rattle.std.specs.Prelude.{MatchBool, eqb, nat_abs}
+use Rattle.std.proofs.Common.{◌≡◌, ◌⊎◌, ℕ, zero, suc, ◌+◌, ◌<◌, ◌≤◌, false, List, [], ◌∷◌, length, take, drop, get_or, Option, Some, None, refl, ap, ◌∙◌, subst, inl, inr, ⊎_elim, arith}
+use Rattle.std.specs.Prelude.{eqb, nat_abs}
 use Rattle.std.specs.Char.{is_ascii_digit, is_ascii_uppercase}
 use Rattle.std.specs.List.{prefix_len}
 use Rattle.std.proofs.lemmas.Bool.{cases_Bool, cases_lt, eqb-true, eqb-false}
@@ -20,6 +20,7 @@ use Rattle.mn_lexer.proofs.Firsts.{nonempty, begins_no_token, begins_nothing}
 use Rattle.mn_lexer.proofs.Words.{longest_word, longest_signed, lone_minus, longest_plain}
 use Rattle.mn_lexer.proofs.Heads.{begins_head, longest_head}
 use Rattle.mn_lexer.proofs.Markings.{longest_single, longest_dots, lone_dot}
+use Rattle.mn_lexer.proofs.Readings.{case_false, case_true}
 
 -- no token stands at the front, or the longest does
 abbrev Front : List ℕ → Type 0
@@ -97,12 +98,6 @@ allowed_or kind.Number bs = ⊎_elim
     (λ past. inr (refl, λ is. omega arith))
     (λ is. inl is)
     (cases_lt NUMBER_LIMIT (nat_abs (number_value bs)))
-
-case_true : {b : Bool} (P Q : Type 0) → b ≡ true → P → MatchBool b P Q
-case_true P Q e p = subst (λ x. MatchBool x P Q) (sym e) p
-
-case_false : {b : Bool} (P Q : Type 0) → b ≡ false → Q → MatchBool b P Q
-case_false P Q e q = subst (λ x. MatchBool x P Q) (sym e) q
 
 module _ (text : List ℕ) where
   abbrev Tokens : ℕ → Type 0

@@ -20,6 +20,7 @@ use Rattle.mn_grammar.specs.declared.Kind.{Kind}
 use Rattle.mn_cursor.specs.Heads.{head_token, head_of, all_heads}
 use Rattle.mn_cursor.specs.declared.heads.Head.{Head}
 use Rattle.mn_cursor.specs.declared.heads.Head.TheVariants.{Variables, TupleList, Search, Constraints, End}
+use Rattle.mn_cursor.proofs.HeadTokens.{head_known}
 use Rattle.mn_language.specs.Constraints.{Constraint, spell_constraint, breaks_constraint, before_all, with_constraint, after_constraint, spell_section, breaks_section, value_section, constraints_spec}
 use Rattle.mn_language.specs.Constructing.{behind_form, depth_inside, constraint_at, which_first, at_first, first_at, rest_at, ended, constraints_at}
 use Rattle.mn_language.specs.Forms.{form_token, all_forms, form_of}
@@ -29,13 +30,6 @@ use Rattle.mn_language.proofs.ConstraintLaws.{Behind, following, constraint_law,
 -- 1. The first token of a constraint, or a head
 abbrev first_token : Form ⊎ Head → Terminal
 first_token = either_token form_token head_token
-
-head_known : (h : Head) → head_of (head_token h) ≡ Some h
-head_known Variables = refl
-head_known TupleList = refl
-head_known Search = refl
-head_known Constraints = refl
-head_known End = refl
 
 head_no_form : (h : Head) → form_of (head_token h) ≡ None
 head_no_form Variables = refl

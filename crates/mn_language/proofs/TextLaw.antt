@@ -5,7 +5,7 @@ use Rattle.mn_lexer.specs.Terminals.{Terminal, word, number}
 use Rattle.mn_lexer.specs.declared.LexFault.{LexFault}
 use Rattle.mn_grammar.specs.Places.{Break, behind}
 use Rattle.mn_grammar.specs.Reading as reading
-use Rattle.mn_grammar.specs.Reading.{Turn, goes_on, is_done, word_at, then_read, ret, loop}
+use Rattle.mn_grammar.specs.Reading.{Turn, goes_on, is_done, word_at, then_read, ret}
 use Rattle.mn_grammar.specs.Lawful.{Spec, first, Lawful}
 use Rattle.mn_grammar.specs.Laws.{IsExact}
 use Rattle.mn_grammar.specs.declared.site.Site.TheVariants.{Fixed}
@@ -28,8 +28,9 @@ use Rattle.mn_decls.specs.TupleLists.{TupleList as Tuples, tuplelist_spec, tuple
 use Rattle.mn_decls.specs.Variables.{Entry, declares, names, variables_spec, variables_at}
 use Rattle.mn_cursor.specs.declared.heads.Head.{Head}
 use Rattle.mn_cursor.specs.declared.heads.Head.TheVariants.{Variables, TupleList, Search, Constraints, End}
+use Rattle.mn_cursor.proofs.HeadTokens.{head_known}
 use Rattle.mn_asking.proofs.Askable as askable
-use Rattle.mn_decls.proofs.TupleListLaw.{heads_known, lists_law}
+use Rattle.mn_decls.proofs.TupleListLaw.{lists_law}
 use Rattle.mn_decls.proofs.VariableLaw as variable_law
 use Rattle.mn_language.specs.Constraints.{Constraint, simple, gathers_none, gathers, ties, constraints_spec}
 use Rattle.mn_language.specs.Constructing.{constraints_at}
@@ -207,7 +208,7 @@ heads_leaf = leaf Fixed head_token (λ h. h) no_break End
 
 heads_law : Lawful heads_leaf any_head
 unfolding any_head
-heads_law = Lawful-one_of Fixed head_token all_heads no_break End heads_known ((refl, refl), (head_token End, refl, refl)) (λ h k e. cc)
+heads_law = Lawful-one_of Fixed head_token all_heads no_break End head_known ((refl, refl), (head_token End, refl, refl)) (λ h k e. cc)
 
 headed_law : Lawful (joined heads_leaf (sections_spec nothing_stated)) (sections_at nothing_stated)
 unfolding sections_at

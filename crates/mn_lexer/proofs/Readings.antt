@@ -1,5 +1,5 @@
 -- The tokens of a text: no text has two lists of them, and a list grows token by token.
-use Rattle.std.proofs.Common.{◌≡◌, ℕ, ◌+◌, ◌<◌, ◌≤◌, Bool, false, List, [], ◌∷◌, ◌++◌, Option, Some, None, length, take, drop, get_or, refl, sym, ap, ◌∙◌, subst, ⊎_elim, arith, length-drop, append_assoc}
+use Rattle.std.proofs.Common.{◌≡◌, ℕ, ◌+◌, ◌<◌, ◌≤◌, Bool, true, false, List, [], ◌∷◌, ◌++◌, Option, Some, None, length, take, drop, get_or, refl, sym, ap, ◌∙◌, subst, ⊎_elim, arith, length-drop, append_assoc}
 use Rattle.std.specs.Prelude.{MatchBool, All, codes}
 use Rattle.std.proofs.lemmas.Slice.Eq.{bytes_eq-Decides}
 use Rattle.std.proofs.lemmas.Bool.{cases_Bool, cases_lt, cases_order, MatchBool-at_true, MatchBool-at_false}
@@ -97,7 +97,10 @@ pub record CutsUpTo (text : List ℕ) (ts : List Token) (at : ℕ) : Type 0 wher
   pub each : All (IsTokenOf text) ts
   pub in_text : at ≤ length text
 
-case_false : {b : Bool} (P Q : Type 0) → b ≡ false → Q → MatchBool b P Q
+pub case_true : {b : Bool} (P Q : Type 0) → b ≡ true → P → MatchBool b P Q
+case_true P Q e p = subst (λ x. MatchBool x P Q) (sym e) p
+
+pub case_false : {b : Bool} (P Q : Type 0) → b ≡ false → Q → MatchBool b P Q
 case_false P Q e q = subst (λ x. MatchBool x P Q) (sym e) q
 
 -- a list of tokens hangs on the place where the next one may stand, and on no more

@@ -1,6 +1,7 @@
 -- The values at the places of a constraint, part by part.
-use Rattle.std.proofs.Common.{◌≡◌, ◌↔◌, ℕ, suc, ◌+◌, ℤ, List, [], ◌∷◌, ◌++◌, length, refl, sym, ap, subst, ◌∙◌, arith}
+use Rattle.std.proofs.Common.{◌≡◌, ◌↔◌, ℕ, ◌+◌, ℤ, List, [], ◌∷◌, ◌++◌, length, refl, sym, ap, subst, ◌∙◌}
 use Rattle.mn_model.specs.declared.constraint.Term.{Term}
+use Rattle.mn_model.proofs.Sizes.{suc_plus_one}
 use Rattle.mn_meaning.specs.Meaning.{at, front, behind, last, rest, values_at, value_of}
 
 -- a vector in front
@@ -17,12 +18,9 @@ pub behind_value : (f : ℕ → ℤ) (v : List Term) (x : Term) (w : List Term) 
 behind_value f [] x w = refl
 behind_value f (y ∷ v) x w = behind_value f v x w
 
-one_more : (n : ℕ) → suc n + 1 ≡ suc (n + 1)
-one_more n = omega arith
-
 pub last_value : (f : ℕ → ℤ) (v : List Term) (x y : Term) → last v (values_at f (v ++ x ∷ y ∷ [])) ≡ value_of f y
 last_value f [] x y = refl
-last_value f (z ∷ v) x y = ap (at (value_of f z ∷ values_at f (v ++ x ∷ y ∷ []))) (one_more (length v)) ∙ last_value f v x y
+last_value f (z ∷ v) x y = ap (at (value_of f z ∷ values_at f (v ++ x ∷ y ∷ []))) (suc_plus_one (length v)) ∙ last_value f v x y
 
 -- a fact of a vector and the place behind it, and of the places of both
 pub with_behind : (P : List ℤ → ℤ → Type 0) (f : ℕ → ℤ) (v : List Term) (x : Term) {T : Type 0} → T ↔ P (values_at f v) (value_of f x) → T ↔ P (front v (values_at f (v ++ x ∷ []))) (behind v (values_at f (v ++ x ∷ [])))

@@ -12,8 +12,9 @@ use Rattle.mn_model.specs.declared.constraint.Term.{Term}
 use Rattle.mn_model.specs.declared.declaration.Tuples.{Tuples}
 use Rattle.mn_model.specs.declared.limits.TheConstants.{PLACES}
 use Rattle.mn_meaning.specs.Meaning.{EachHolds, EachMeets, HoldsOver, Meets, SomeHolds, SomeMeet, value_of}
-use Rattle.mn_model.proofs.Children.{all_back, all_front, implied, made_implied, made_more, made_negated, made_reified}
+use Rattle.mn_model.proofs.Children.{implied, made_implied, made_more, made_negated, made_reified}
 use Rattle.mn_model.proofs.Children as children
+use Rattle.mn_model.proofs.Lists.{all_back, all_front}
 use Rattle.mn_meaning.proofs.Fronts.{with_behind, with_rest}
 
 -- its vectors are short

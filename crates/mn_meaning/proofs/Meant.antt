@@ -16,10 +16,9 @@ use Rattle.mn_model.specs.declared.constraint.Term.{Term}
 use Rattle.mn_model.specs.declared.constraint.Term.TheVariants.{Var, Const, Not}
 use Rattle.mn_model.specs.declared.declaration.Tuples.{Tuples}
 use Rattle.mn_model.specs.declared.limits.TheConstants.{PLACES}
+use Rattle.mn_model.proofs.Lists.{all_append, all_back, all_front, all_so}
 use Rattle.mn_meaning.specs.Laws.{IsAssignment, IsZeroOrOne, BitsAreBits}
 use Rattle.mn_meaning.specs.Meaning.{at, value_of}
-use Rattle.mn_model.proofs.Children.{all_front, all_back}
-use Rattle.mn_meaning.proofs.MemberLemmas.{AllByRecursion-append, weakened}
 
 -- one more weight for one more place
 one_longer : (ks : List ℤ) (v : List Term) (k : ℤ) (x : Term) → length ks ≡ length v → length (ks ++ k ∷ []) ≡ length (v ++ x ∷ [])
@@ -82,9 +81,9 @@ pub record AreNearParts (terms : List Term) (numbers : List ℤ) (vs : List (Lis
 
 near_parts : (domains : List (List ℤ)) (terms zeros : List Term) (numbers : List ℤ) (vs : List (List Term)) → AreLawfulParts domains terms zeros numbers vs → AreNearParts terms numbers vs
 near_parts domains terms zeros numbers vs parts = record {
-  places = weakened (IsLawfulTerm domains) IsNearTerm (near_term domains) terms parts.named;
-  constants = weakened IsValue IsNear near_value numbers parts.constants;
-  short = weakened IsShort (λ v. length v ≤ PLACES + 1) (λ v short. omega (arith, short)) vs parts.short;
+  places = all_so (IsLawfulTerm domains) IsNearTerm (near_term domains) terms parts.named;
+  constants = all_so IsValue IsNear near_value numbers parts.constants;
+  short = all_so IsShort (λ v. length v ≤ PLACES + 1) (λ v short. omega (arith, short)) vs parts.short;
 }
 
 near_other : (domains : List (List ℤ)) (r : Term) → IsBit domains r → IsNearTerm (other r)
@@ -100,17 +99,17 @@ near_ones (t ∷ v) = ((omega (arith, ints), omega (arith, ints)), near_ones v)
 -- those of a sum of a vector less x
 sum_parts : (ks : List ℤ) (v : List Term) (x : Term) (k : ℤ) → AllByRecursion IsNear ks → AllByRecursion IsNearTerm (v ++ x ∷ []) → IsShort v → IsNear k → AreNearParts ((v ++ x ∷ []) ++ Const k ∷ []) (ks ++ negsuc 0 ∷ []) ((v ++ x ∷ []) ∷ [])
 sum_parts ks v x k weights terms short near = record {
-  places = AllByRecursion-append IsNearTerm (v ++ x ∷ []) (Const k ∷ []) terms (near, tt);
-  constants = AllByRecursion-append IsNear ks (negsuc 0 ∷ []) weights ((omega (arith, ints), omega (arith, ints)), tt);
+  places = all_append IsNearTerm (v ++ x ∷ []) (Const k ∷ []) terms (near, tt);
+  constants = all_append IsNear ks (negsuc 0 ∷ []) weights ((omega (arith, ints), omega (arith, ints)), tt);
   short = (omega (arith, short, length-append v (x ∷ [])), tt);
 }
 
 -- those of two together
 joined_parts : (terms others : List Term) (numbers more : List ℤ) (vs ws : List (List Term)) → AreNearParts terms numbers vs → AreNearParts others more ws → AreNearParts (terms ++ others) (numbers ++ more) (vs ++ ws)
 joined_parts terms others numbers more vs ws one two = record {
-  places = AllByRecursion-append IsNearTerm terms others one.places two.places;
-  constants = AllByRecursion-append IsNear numbers more one.constants two.constants;
-  short = AllByRecursion-append (λ v. length v ≤ PLACES + 1) vs ws one.short two.short;
+  places = all_append IsNearTerm terms others one.places two.places;
+  constants = all_append IsNear numbers more one.constants two.constants;
+  short = all_append (λ v. length v ≤ PLACES + 1) vs ws one.short two.short;
 }
 
 first_parts : (domains : List (List ℤ)) (terms others zeros bits : List Term) (numbers more : List ℤ) (vs ws : List (List Term)) → AreLawfulParts domains (terms ++ others) (zeros ++ bits) (numbers ++ more) (vs ++ ws) → AreLawfulParts domains terms zeros numbers vs
@@ -144,7 +143,7 @@ changed_parts terms numbers others vs parts near = record { places = parts.place
 
 swapped_parts : (v w : List Term) → AreNearParts (v ++ w) [] (v ∷ w ∷ []) → AreNearParts (w ++ v) [] (w ∷ v ∷ [])
 swapped_parts v w parts = record {
-  places = AllByRecursion-append IsNearTerm w v (all_back IsNearTerm v w parts.places) (all_front IsNearTerm v w parts.places);
+  places = all_append IsNearTerm w v (all_back IsNearTerm v w parts.places) (all_front IsNearTerm v w parts.places);
   constants = tt;
   short = (parts.short.1.0, (parts.short.0, tt));
 }
@@ -185,7 +184,7 @@ mutual
   negation_parts domains (con.Reify' p (more_of-Con c none) r) parts =
       let near = near_parts domains (places c) (bits c) (constants c) (vectors c) (inner_parts domains (places c) (bits c) r (constants c) (vectors c) parts) in
       record {
-        places = AllByRecursion-append IsNearTerm (places c) (other r ∷ []) near.places (near_other domains r (all_back (IsBit domains) (bits c) (r ∷ []) parts.bits).0, tt);
+        places = all_append IsNearTerm (places c) (other r ∷ []) near.places (near_other domains r (all_back (IsBit domains) (bits c) (r ∷ []) parts.bits).0, tt);
         constants = near.constants;
         short = near.short;
       }
@@ -240,4 +239,4 @@ bit_value domains s assigned (Not v) bit = other_bit (at s (number_of v)) (bit_a
 
 -- so the 0/1 places of a lawful constraint have such values
 pub lawful_bits : (domains : List (List ℤ)) (lists : List Tuples) (c : Con) (s : List ℤ) → IsLawfulCon domains lists c → IsAssignment domains s → BitsAreBits (at s) c
-lawful_bits domains lists c s lawful assigned = weakened (IsBit domains) (λ t. IsZeroOrOne (value_of (at s) t)) (bit_value domains s assigned) (bits c) lawful.bits
+lawful_bits domains lists c s lawful assigned = all_so (IsBit domains) (λ t. IsZeroOrOne (value_of (at s) t)) (bit_value domains s assigned) (bits c) lawful.bits

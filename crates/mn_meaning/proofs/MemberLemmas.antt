@@ -4,38 +4,15 @@ use Rattle.std.proofs.lemmas.Grind.{reverse_onto}
 use Rattle.std.specs.List.{AllByRecursion, flat_map}
 use Rattle.mn_model.specs.Decided.{Decided, keep_if, kept}
 use Rattle.mn_model.specs.Members.{HasMember, HoldsInOrder}
-
--- a member of two lists together is a member of one of them
-pub member_front : {X : Type 0} (xs ys : List X) (x : X) → HasMember xs x → HasMember (xs ++ ys) x
-member_front [] ys x member = absurd member
-member_front (y ∷ xs) ys x (inl same) = inl same
-member_front (y ∷ xs) ys x (inr later) = inr (member_front xs ys x later)
-
-pub member_back : {X : Type 0} (xs ys : List X) (x : X) → HasMember ys x → HasMember (xs ++ ys) x
-member_back [] ys x member = member
-member_back (y ∷ xs) ys x member = inr (member_back xs ys x member)
-
-pub member_of_either : {X : Type 0} (xs ys : List X) (x : X) → HasMember (xs ++ ys) x → HasMember xs x ⊎ HasMember ys x
-member_of_either [] ys x member = inr member
-member_of_either (y ∷ xs) ys x (inl same) = inl (inl same)
-member_of_either (y ∷ xs) ys x (inr later) = elim (member_of_either xs ys x later) [ inl front ↦ inl (inr front) | inr back ↦ inr back ]
-
--- what holds of each member of two lists
-pub AllByRecursion-append : {X : Type 0} (P : X → Type 0) (xs ys : List X) → AllByRecursion P xs → AllByRecursion P ys → AllByRecursion P (xs ++ ys)
-AllByRecursion-append P [] ys front back = back
-AllByRecursion-append P (x ∷ xs) ys front back = (front.0, AllByRecursion-append P xs ys front.1 back)
+use Rattle.mn_model.proofs.Lists.{all_append, all_filter, all_map, all_so, member_back, member_front, member_of_either}
 
 pub HoldsInOrder-append : {X : Type 0} (R : X → X → Type 0) (xs ys : List X) → HoldsInOrder R xs → HoldsInOrder R ys → AllByRecursion (λ x. AllByRecursion (R x) ys) xs → HoldsInOrder R (xs ++ ys)
 HoldsInOrder-append R [] ys front back across = back
-HoldsInOrder-append R (x ∷ xs) ys front back across = (AllByRecursion-append (R x) xs ys front.0 across.0, HoldsInOrder-append R xs ys front.1 back across.1)
-
-pub weakened : {X : Type 0} (P Q : X → Type 0) → ((x : X) → P x → Q x) → (xs : List X) → AllByRecursion P xs → AllByRecursion Q xs
-weakened P Q weaker [] all = tt
-weakened P Q weaker (x ∷ xs) all = (weaker x all.0, weakened P Q weaker xs all.1)
+HoldsInOrder-append R (x ∷ xs) ys front back across = (all_append (R x) xs ys front.0 across.0, HoldsInOrder-append R xs ys front.1 back across.1)
 
 pub HoldsInOrder-weakened : {X : Type 0} (R S : X → X → Type 0) → ((x y : X) → R x y → S x y) → (xs : List X) → HoldsInOrder R xs → HoldsInOrder S xs
 HoldsInOrder-weakened R S weaker [] ordered = tt
-HoldsInOrder-weakened R S weaker (x ∷ xs) ordered = (weakened (R x) (S x) (weaker x) xs ordered.0, HoldsInOrder-weakened R S weaker xs ordered.1)
+HoldsInOrder-weakened R S weaker (x ∷ xs) ordered = (all_so (R x) (S x) (weaker x) xs ordered.0, HoldsInOrder-weakened R S weaker xs ordered.1)
 
 -- what is kept is a member of which P holds
 kept_first : {X : Type 0} (P : X → Type 0) (y : X) (d : Decided (P y)) (others : List X) (x : X) → HasMember (keep_if d y others) x → ((y ≡ x) × P x) ⊎ HasMember others x
@@ -92,7 +69,7 @@ pub of_members : {X : Type 0} (P : X → Type 0) (xs : List X) → ((x : X) → 
 of_members P [] each = tt
 of_members P (y ∷ xs) each = (each y (inl refl), of_members P xs (λ x later. each x (inr later)))
 
--- the same of order, where what is weakened speaks of members
+-- the same of order, where what follows speaks of members
 pub HoldsInOrder-of_members : {X : Type 0} (R S : X → X → Type 0) (xs : List X) → ((x y : X) → HasMember xs x → HasMember xs y → R x y → S x y) → HoldsInOrder R xs → HoldsInOrder S xs
 HoldsInOrder-of_members R S [] weaker ordered = tt
 HoldsInOrder-of_members R S (z ∷ xs) weaker ordered = (
@@ -133,40 +110,23 @@ HoldsInOrder-flat_map {X} {Y} R f (x ∷ xs) each across =
 -- turned round, the members are the same and stand in the other order
 pub AllByRecursion-reverse : {X : Type 0} (P : X → Type 0) (xs : List X) → AllByRecursion P xs → AllByRecursion P (reverse xs)
 AllByRecursion-reverse P [] all = tt
-AllByRecursion-reverse P (x ∷ xs) all = rw (reverse_onto xs x []) (AllByRecursion-append P (reverse xs) (x ∷ []) (AllByRecursion-reverse P xs all.1) (all.0, tt))
+AllByRecursion-reverse P (x ∷ xs) all = rw (reverse_onto xs x []) (all_append P (reverse xs) (x ∷ []) (AllByRecursion-reverse P xs all.1) (all.0, tt))
 
 pub HoldsInOrder-reverse : {X : Type 0} (R : X → X → Type 0) (xs : List X) → HoldsInOrder R xs → HoldsInOrder (λ x y. R y x) (reverse xs)
 HoldsInOrder-reverse R [] ordered = tt
 HoldsInOrder-reverse R (x ∷ xs) ordered =
     rw (reverse_onto xs x [])
     (HoldsInOrder-append (λ y z. R z y) (reverse xs) (x ∷ []) (HoldsInOrder-reverse R xs ordered.1) (tt, tt)
-    (weakened (R x) (λ y. AllByRecursion (λ z. R z y) (x ∷ [])) (λ y before. (before, tt)) (reverse xs) (AllByRecursion-reverse (R x) xs ordered.0)))
+    (all_so (R x) (λ y. AllByRecursion (λ z. R z y) (x ∷ [])) (λ y before. (before, tt)) (reverse xs) (AllByRecursion-reverse (R x) xs ordered.0)))
 
 pub member_reverse : {X : Type 0} (xs : List X) (x : X) → HasMember xs x → HasMember (reverse xs) x
 member_reverse [] x member = absurd member
 member_reverse (y ∷ xs) x (inl same) = rw (reverse_onto xs y []) (member_back (reverse xs) (y ∷ []) x (inl same))
 member_reverse (y ∷ xs) x (inr later) = rw (reverse_onto xs y []) (member_front (reverse xs) (y ∷ []) x (member_reverse xs x later))
 
--- what is picked by a test
-AllByRecursion-cond : {X : Type 0} (P : X → Type 0) (b : Bool) (x : X) (xs : List X) → P x → AllByRecursion P xs → AllByRecursion P (cond b (x ∷ xs) xs)
-AllByRecursion-cond P true x xs here all = (here, all)
-AllByRecursion-cond P false x xs here all = all
-
-pub AllByRecursion-filter : {X : Type 0} (P : X → Type 0) (test : X → Bool) (xs : List X) → AllByRecursion P xs → AllByRecursion P (filter test xs)
-AllByRecursion-filter P test [] all = tt
-AllByRecursion-filter P test (x ∷ xs) all = AllByRecursion-cond P (test x) x (filter test xs) all.0 (AllByRecursion-filter P test xs all.1)
-
-pub AllByRecursion-passed : {X : Type 0} (P : X → Type 0) (test : X → Bool) → ((x : X) → test x ≡ true → P x) → (xs : List X) → AllByRecursion P (filter test xs)
-AllByRecursion-passed {X} P test passes [] = tt
-AllByRecursion-passed {X} P test passes (x ∷ xs) = by (test x) refl (filter test xs) (AllByRecursion-passed P test passes xs)
-  where
-    by : (b : Bool) → test x ≡ b → (others : List X) → AllByRecursion P others → AllByRecursion P (cond b (x ∷ others) others)
-    by true e others all = (passes x e, all)
-    by false e others all = all
-
 pub HoldsInOrder-filter : {X : Type 0} (R : X → X → Type 0) (test : X → Bool) (xs : List X) → HoldsInOrder R xs → HoldsInOrder R (filter test xs)
 HoldsInOrder-filter {X} R test [] ordered = tt
-HoldsInOrder-filter {X} R test (x ∷ xs) ordered = by (test x) (filter test xs) (AllByRecursion-filter (R x) test xs ordered.0) (HoldsInOrder-filter R test xs ordered.1)
+HoldsInOrder-filter {X} R test (x ∷ xs) ordered = by (test x) (filter test xs) (all_filter (R x) test xs ordered.0) (HoldsInOrder-filter R test xs ordered.1)
   where
     by : (b : Bool) (others : List X) → AllByRecursion (R x) others → HoldsInOrder R others → HoldsInOrder R (cond b (x ∷ others) others)
     by true others first later = (first, later)
@@ -186,14 +146,9 @@ member_filter {X} test (y ∷ xs) x (inr later) passes = by (test y) (filter tes
     by true others there = inr there
     by false others there = there
 
--- what is said of the images is said of the members
-pub AllByRecursion-map : {X Y : Type 0} (P : Y → Type 0) (f : X → Y) (xs : List X) → AllByRecursion (λ x. P (f x)) xs → AllByRecursion P (map f xs)
-AllByRecursion-map P f [] all = tt
-AllByRecursion-map P f (x ∷ xs) all = (all.0, AllByRecursion-map P f xs all.1)
-
 pub HoldsInOrder-map : {X Y : Type 0} (R : Y → Y → Type 0) (f : X → Y) (xs : List X) → HoldsInOrder (λ x y. R (f x) (f y)) xs → HoldsInOrder R (map f xs)
 HoldsInOrder-map R f [] ordered = tt
-HoldsInOrder-map R f (x ∷ xs) ordered = (AllByRecursion-map (R (f x)) f xs ordered.0, HoldsInOrder-map R f xs ordered.1)
+HoldsInOrder-map R f (x ∷ xs) ordered = (all_map (R (f x)) f xs ordered.0, HoldsInOrder-map R f xs ordered.1)
 
 pub map_member : {X Y : Type 0} (f : X → Y) (xs : List X) (x : X) → HasMember xs x → HasMember (map f xs) (f x)
 map_member f [] x member = absurd member

@@ -13,10 +13,10 @@ use Rattle.mn_model.specs.declared.constraint.Con.TheBlock.{more_of-Con, more_of
 use Rattle.mn_model.specs.declared.constraint.Term.{Term}
 use Rattle.mn_model.specs.declared.constraint.Term.TheVariants.{Var, Const, Not}
 use Rattle.mn_model.specs.declared.declaration.Tuples.{Tuples}
+use Rattle.mn_model.proofs.Lists.{all_back, all_front}
 use Rattle.mn_meaning.specs.Families.{occurrences, sum_of, weighted_sum, IsBelow}
 use Rattle.mn_meaning.specs.Laws.{IsZeroOrOne, BitsAreBits}
 use Rattle.mn_meaning.specs.Meaning.{front, behind, rest, value_of, SomeMeet, EachMeets, HoldsOver, decide_meets}
-use Rattle.mn_model.proofs.Children.{all_front, all_back}
 
 -- the values at the parts of the places
 pub front_is : (f : Term → ℤ) (v w : List Term) → front v (map f (v ++ w)) ≡ map f v

@@ -7,12 +7,14 @@ use Rattle.mn_model.specs.Lawful.{IsLawfulDecl}
 use Rattle.mn_model.specs.Members.{HasMember, HoldsInOrder, AreDistinct}
 use Rattle.mn_model.specs.Problem.{Problem, size_of_dims, domains_of, variables_of, variable_count}
 use Rattle.mn_model.specs.declared.declaration.Decl.{Decl}
+use Rattle.mn_model.proofs.Lists.{all_append}
+use Rattle.mn_model.proofs.Variables.{length-domains_of}
 use Rattle.mn_meaning.specs.Laws.{DomainsAscend, IsAssignment, OrderIsKnown, Precedes}
 use Rattle.mn_meaning.specs.Meaning.{HoldsAll, decide_holds_all}
 use Rattle.mn_meaning.specs.Solutions.{search_order, all_assignments, solutions}
 use Rattle.mn_meaning.proofs.Assignments.{chosen_is, is_chosen, chosen_ordered, ordered_distinct}
-use Rattle.mn_meaning.proofs.MemberLemmas.{AllByRecursion-append, member_kept, kept_member, HoldsInOrder-kept}
-use Rattle.mn_meaning.proofs.Turns.{domain_count, order_known, order_ready}
+use Rattle.mn_meaning.proofs.MemberLemmas.{member_kept, kept_member, HoldsInOrder-kept}
+use Rattle.mn_meaning.proofs.Turns.{order_known, order_ready}
 
 -- the domains of lawful declarations ascend
 copies_ascend : (n : ℕ) (d : Decl) → Ascends d.domain → AllByRecursion Ascends (map (λ (x : Decl). x.domain) (replicate n d))
@@ -23,13 +25,13 @@ pub domains_ascend : (decls : List Decl) → AllByRecursion IsLawfulDecl decls �
 domains_ascend [] lawful = tt
 domains_ascend (d ∷ decls) lawful =
     rw (map-append (λ (x : Decl). x.domain) (replicate (size_of_dims d.dims) d) (variables_of decls))
-    (AllByRecursion-append Ascends (map (λ (x : Decl). x.domain) (replicate (size_of_dims d.dims) d)) (domains_of decls) (copies_ascend (size_of_dims d.dims) d lawful.0.domain.ascends) (domains_ascend decls lawful.1))
+    (all_append Ascends (map (λ (x : Decl). x.domain) (replicate (size_of_dims d.dims) d)) (domains_of decls) (copies_ascend (size_of_dims d.dims) d lawful.0.domain.ascends) (domains_ascend decls lawful.1))
 
 -- the assignments have a value of each domain
 pub assignments_all : (p : Problem) → OrderIsKnown p → (s : List ℤ) → HasMember (all_assignments p) s ↔ IsAssignment (domains_of p.decls) s
 assignments_all p known s = (
   chosen_is (search_order p) (domains_of p.decls) s (order_ready p),
-  is_chosen (search_order p) (variable_count p.decls) (domains_of p.decls) s (domain_count p) (order_known p known) (order_ready p),
+  is_chosen (search_order p) (variable_count p.decls) (domains_of p.decls) s (length-domains_of p.decls) (order_known p known) (order_ready p),
 )
 
 pub assignments_ordered : (p : Problem) → DomainsAscend p → HoldsInOrder (Precedes p) (all_assignments p)

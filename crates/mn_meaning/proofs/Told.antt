@@ -53,7 +53,3 @@ at_two P x a y b {T} is has holds = subst (λ (d : ℤ). T ↔ P a d) has (subst
 
 pub at_three : (P : ℤ → ℤ → ℤ → Type 0) (x a y b z d : ℤ) {T : Type 0} → x ≡ a → y ≡ b → z ≡ d → T ↔ P x y z → T ↔ P a b d
 at_three P x a y b z d {T} is has gets holds = subst (λ (e : ℤ). T ↔ P a b e) gets (at_two (λ e e2. P e e2 z) x a y b is has holds)
-
-pub only_false : (t : Bool) → (t ≡ true → ⊥) → t ≡ false
-only_false true never = absurd (never refl)
-only_false false never = refl

@@ -6,8 +6,11 @@ use Rattle.std.specs.Cmp.{int_ranks}
 use Rattle.std.specs.List.{AllByRecursion}
 use Rattle.std.specs.List.Sorted.{IsBinarySearchResult, IsSearchInRange}
 use Rattle.std.specs.Ordering.{MatchOrdering, int_cmp, ordering_index}
+use Rattle.std.proofs.lemmas.Option.{get_or_from_slice_get}
 use Rattle.mn_model.specs.Domain.{Ascends, Has, IsValue, IsDomainFrom, values_of}
+use Rattle.mn_model.proofs.Lists.{filled_length, all_at}
 use Rattle.mn_model.proofs.Stretches.{values_of-some}
+use Rattle.mn_model.proofs.Ordered.{in_order, le_true}
 
 -- a member is at one of the places
 pub record StandsAt (xs : List ℤ) (a : ℤ) : Type 0 where
@@ -24,19 +27,6 @@ stands_so : (xs : List ℤ) (i : ℕ) (a : ℤ) → i < length xs → ((d : ℤ)
 stands_so [] i a within is = absurd (omega (arith, within))
 stands_so (x ∷ xs) zero a within is = inl (is x)
 stands_so (x ∷ xs) (suc i) a within is = inr (stands_so xs i a (omega (arith, within)) is)
-
--- what comes later is greater
-later_greater : (x : ℤ) (xs : List ℤ) (i : ℕ) (d : ℤ) → AllByRecursion (λ y. x <ℤ y) xs → i < length xs → x <ℤ slice_index_or xs i d
-later_greater x [] i d greater within = absurd (omega (arith, within))
-later_greater x (y ∷ ys) zero d greater within = greater.0
-later_greater x (y ∷ ys) (suc i) d greater within = later_greater x ys i d greater.1 (omega (arith, within))
-
-ascending : (xs : List ℤ) (i j : ℕ) (d : ℤ) → Ascends xs → i ≤ j → j < length xs → slice_index_or xs i d ≤ℤ slice_index_or xs j d
-ascending [] i j d up order within = absurd (omega (arith, within))
-ascending (x ∷ xs) zero zero d up order within = omega (arith, ints)
-ascending (x ∷ xs) zero (suc j) d up order within = let less = later_greater x xs j d up.0 (omega (arith, within)) in omega (arith, ints, less)
-ascending (x ∷ xs) (suc i) zero d up order within = absurd (omega (arith, order))
-ascending (x ∷ xs) (suc i) (suc j) d up order within = ascending xs i j d up.1 (omega (arith, order)) (omega (arith, within))
 
 -- tests of values that rise against one number rise
 higher : (a x y : ℤ) → x ≤ℤ y → ordering_index (int_cmp x a) ≤ ordering_index (int_cmp y a)
@@ -68,7 +58,7 @@ searched xs a (Err i) up within parted = (λ e. cc, λ has. absurd (none (stands
   where
     none : StandsAt xs a → ⊥
     none at =
-        let sides = parted (λ j k d order inside. higher a (slice_index_or xs j d) (slice_index_or xs k d) (ascending xs j k d up order inside)) in
+        let sides = parted (λ j k d order inside. higher a (slice_index_or xs j d) (slice_index_or xs k d) (in_order xs j k d up order inside)) in
         by (nat_lt at.place i) refl
         (λ before. not_less (slice_index_or xs at.place a) a (sides.0 at.place a (omega arith) before) (at.is a))
         (λ behind. not_greater (slice_index_or xs at.place a) a (sides.1 at.place a behind at.within) (at.is a))
@@ -85,14 +75,6 @@ searched_domain lo hi a listed values row answer filled is up same within found 
     let found_there = searched row a answer (subst Ascends (all ∙ sym same) up) within found in
     subst (λ vs. IsTrue (is_ok answer) ↔ Has vs a) (same ∙ sym all ∙ is) found_there
 
--- a test between two numbers tells whether they are in order
-test_so : (a b : ℤ) → a ≤ℤ b → int_le a b ≡ true
-test_so a b le = by (int_le a b) refl
-  where
-    by : (t : Bool) → int_le a b ≡ t → int_le a b ≡ true
-    by true e = e
-    by false e = absurd (omega (arith, ints, le, e))
-
 -- the test of the upper end, where that of the lower one passed, is the test of both
 pub tests_both : {P : Type 0} (lo hi a low at high : ℤ) → low ≡ lo → at ≡ a → high ≡ hi → P ↔ ((lo ≤ℤ a) × (a ≤ℤ hi)) → int_le low at ≡ true → IsTrue (int_le at high) ↔ P
 tests_both {P} lo hi a low at high is_low is_at is_high between passed = (to, from)
@@ -101,7 +83,7 @@ tests_both {P} lo hi a low at high is_low is_at is_high between passed = (to, fr
     to t = between.1 (omega (arith, ints, passed, is_low, is_at), omega (arith, ints, t, is_at, is_high))
 
     from : P → IsTrue (int_le at high)
-    from p = let le = (between.0 p).1 in test_so at high (omega (arith, ints, le, is_at, is_high))
+    from p = let le = (between.0 p).1 in le_true at high (omega (arith, ints, le, is_at, is_high))
 
 -- that of the lower one, where it failed, is the test of both
 pub tests_one : {P : Type 0} (lo hi a low at : ℤ) → low ≡ lo → at ≡ a → P ↔ ((lo ≤ℤ a) × (a ≤ℤ hi)) → int_le low at ≡ false → IsTrue (int_le low at) ↔ P
@@ -114,26 +96,12 @@ tests_one {P} lo hi a low at is_low is_at between failed = (λ t. absurd (true�
 pub ends : (xs : List ℤ) (lo hi : ℤ) → (xs ≡ [] → ⊥) → Ascends xs → AllByRecursion IsValue xs → slice_get xs 0 ≡ Some lo → slice_get xs (length xs - 1) ≡ Some hi → IsDomainFrom lo hi (values_of lo hi xs)
 ends xs lo hi filled up valued first last = subst (IsDomainFrom lo hi) (sym (values_of-some lo hi xs filled)) (record {
   ordered = ordered;
-  low = value_at xs 0 lo valued first;
-  high = value_at xs (length xs - 1) hi valued last;
+  low = all_at IsValue xs 0 lo valued first;
+  high = all_at IsValue xs (length xs - 1) hi valued last;
   domain = record { filled = filled; ascends = up; valued = valued };
   first = first;
   last = last;
 })
   where
-    value_at : (ys : List ℤ) (i : ℕ) (b : ℤ) → AllByRecursion IsValue ys → slice_get ys i ≡ Some b → IsValue b
-    value_at [] i b all is = cc
-    value_at (y ∷ ys) zero b all is = let same : y ≡ b = cc in subst IsValue same all.0
-    value_at (y ∷ ys) (suc i) b all is = value_at ys i b all.1 is
-
     ordered : lo ≤ℤ hi
-    ordered = let le = ascending xs 0 (length xs - 1) lo up (omega arith) (not_empty xs filled) in omega (arith, ints, le, index_so xs 0 lo lo first, index_so xs (length xs - 1) hi lo last)
-      where
-        not_empty : (ys : List ℤ) → (ys ≡ [] → ⊥) → length ys - 1 < length ys
-        not_empty [] some = absurd (some refl)
-        not_empty (y ∷ ys) some = omega arith
-
-        index_so : (ys : List ℤ) (i : ℕ) (b d : ℤ) → slice_get ys i ≡ Some b → slice_index_or ys i d ≡ b
-        index_so [] i b d is = cc
-        index_so (y ∷ ys) zero b d is = cc
-        index_so (y ∷ ys) (suc i) b d is = index_so ys i b d is
+    ordered = let some = filled_length xs filled in let le = in_order xs 0 (length xs - 1) lo up (omega arith) (omega (arith, some)) in omega (arith, ints, le, get_or_from_slice_get xs 0 lo lo first, get_or_from_slice_get xs (length xs - 1) hi lo last)

@@ -1,6 +1,5 @@
 -- Children of a nested form, made of a list and taken apart.
 use Rattle.std.proofs.Common.{◌≡◌, pos, ◌+◌, ◌<◌, ◌≤◌, List, [], ◌∷◌, ◌++◌, refl, ap, subst, ◌∙◌, arith}
-use Rattle.std.specs.List.{AllByRecursion}
 use Rattle.mn_model.specs.Lawful.{HasNearConstants, HaveNearConstants, IsNear, IsNearTerm}
 use Rattle.mn_model.specs.Parts.{places, places_of, constants, constants_of, cell_count, cell_count_of}
 use Rattle.mn_model.specs.Negation.{more, reified, negated, other, followed_by, negation, negations}
@@ -11,6 +10,7 @@ use Rattle.mn_model.specs.declared.constraint.Con.TheVariants.{End}
 use Rattle.mn_model.specs.declared.constraint.Con.TheVariants as made
 use Rattle.mn_model.specs.declared.constraint.Con.TheBlock.{more_of-Con, end_of-Con}
 use Rattle.mn_model.specs.declared.constraint.Term.{Term}
+use Rattle.mn_model.proofs.Lists.{all_back, all_front}
 
 -- a constraint that a 0/1 term implies
 abbrev pub implied : Con → Term → Con
@@ -68,15 +68,6 @@ cells_negated all c is = ap cell_count (is ∙ made_negated c)
 -- those of several are those of the first and of the others
 pub cells_more : (all : Cons) (c : Con) (others : Cons) → all ≡ made.More c others → cell_count_of all ≡ cell_count c + cell_count_of others
 cells_more all c others is = ap cell_count_of (is ∙ made_more c others)
-
--- what holds of all of two lists holds of each of them
-pub all_front : {X : Type 0} (P : X → Type 0) (xs ys : List X) → AllByRecursion P (xs ++ ys) → AllByRecursion P xs
-all_front P [] ys all = tt
-all_front P (x ∷ xs) ys all = (all.0, all_front P xs ys all.1)
-
-pub all_back : {X : Type 0} (P : X → Type 0) (xs ys : List X) → AllByRecursion P (xs ++ ys) → AllByRecursion P ys
-all_back P [] ys all = all
-all_back P (x ∷ xs) ys all = all_back P xs ys all.1
 
 -- where the constants of a form are near the limits, so are those of its parts
 pub near_reified : (all c : Con) (r : Term) → all ≡ made.Reify c r → HasNearConstants all → IsNearTerm r

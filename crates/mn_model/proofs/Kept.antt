@@ -29,15 +29,7 @@ use Rattle.mn_model.specs.declared.search.Order.{Order}
 use Rattle.mn_model.specs.declared.search.Print.{Print}
 use Rattle.mn_model.specs.declared.search.Print.TheVariants.{All, Nothing, Rows}
 use Rattle.mn_model.specs.declared.variable.VarId.{VarId}
-
-pub AllByRecursion-push : {X : Type 0} (P : X → Type 0) (xs : List X) (x : X) → AllByRecursion P xs → P x → AllByRecursion P (xs ++ x ∷ [])
-AllByRecursion-push P [] x all p = (p, tt)
-AllByRecursion-push P (y ∷ xs) x all p = (all.0, AllByRecursion-push P xs x all.1 p)
-
-pub AllByRecursion-at : {X : Type 0} (P : X → Type 0) (xs : List X) (i : ℕ) (x : X) → AllByRecursion P xs → slice_get xs i ≡ Some x → P x
-AllByRecursion-at P [] i x all e = cc
-AllByRecursion-at P (y ∷ xs) zero x all e = let same : y ≡ x = cc in subst P same all.0
-AllByRecursion-at P (y ∷ xs) (suc i) x all e = AllByRecursion-at P xs i x all.1 e
+use Rattle.mn_model.proofs.Lists.{all_push, all_so}
 
 -- a declaration's variables are among those of all
 pub numbered_within : (n : ℕ) (decls : List Decl) (i : ℕ) (d : Decl) → AreNumberedFrom n decls → slice_get decls i ≡ Some d → number_of d.first + size_of_dims d.dims ≤ n + variable_count decls
@@ -100,10 +92,6 @@ bytes_eq-sym xs ys = told (bytes_eq ys xs) (bytes_eq xs ys) (bytes_eq-Decides ys
     told true false d e = absurd (true≢false (sym (e.1 (sym (d.0 refl)))))
     told false true d e = absurd (true≢false (sym (d.1 (sym (e.0 refl)))))
 
-AllByRecursion-map : {X : Type 0} (P Q : X → Type 0) → ((x : X) → P x → Q x) → (xs : List X) → AllByRecursion P xs → AllByRecursion Q xs
-AllByRecursion-map P Q f [] all = tt
-AllByRecursion-map P Q f (x ∷ xs) all = (f x all.0, AllByRecursion-map P Q f xs all.1)
-
 -- a place with a set of bits is one of the places
 inside : (domains : List (List ℤ)) (n : ℕ) → AreBits (slice_get domains n) → n < length domains
 inside [] n bits = absurd bits
@@ -133,8 +121,8 @@ module _ (domains more : List (List ℤ)) where
 
   con-more : (lists : List Tuples) (c : Con) → IsLawfulCon domains lists c → IsLawfulCon (domains ++ more) lists c
   con-more lists c lawful = record {
-    named = AllByRecursion-map (IsLawfulTerm domains) (IsLawfulTerm (domains ++ more)) term-more (places c) lawful.named;
-    bits = AllByRecursion-map (IsBit domains) (IsBit (domains ++ more)) bit-more (bits c) lawful.bits;
+    named = all_so (IsLawfulTerm domains) (IsLawfulTerm (domains ++ more)) term-more (places c) lawful.named;
+    bits = all_so (IsBit domains) (IsBit (domains ++ more)) bit-more (bits c) lawful.bits;
     constants = lawful.constants;
     short = lawful.short;
     tables = lawful.tables;
@@ -148,12 +136,12 @@ module _ (domains more : List (List ℤ)) where
     named = lawful.named;
     shaped = lawful.shaped;
     filled = lawful.filled;
-    known = AllByRecursion-map (IsKnown domains) (IsKnown (domains ++ more)) known-more a.vars lawful.known;
+    known = all_so (IsKnown domains) (IsKnown (domains ++ more)) known-more a.vars lawful.known;
   }
 
   order-more : (o : Order) → IsLawfulOrder domains o → IsLawfulOrder (domains ++ more) o
   order-more o lawful = record {
-    known = AllByRecursion-map (IsKnown domains) (IsKnown (domains ++ more)) known-more o.vars lawful.known;
+    known = all_so (IsKnown domains) (IsKnown (domains ++ more)) known-more o.vars lawful.known;
     few = lawful.few;
     directed = lawful.directed;
   }
@@ -163,12 +151,12 @@ module _ (domains more : List (List ℤ)) where
   goal-more (Some g) lawful = known-more g.var lawful
 
   row-more : (row : List Term) → IsLawfulRow domains row → IsLawfulRow (domains ++ more) row
-  row-more row lawful = record { named = AllByRecursion-map (IsLawfulTerm domains) (IsLawfulTerm (domains ++ more)) term-more row lawful.named; short = lawful.short }
+  row-more row lawful = record { named = all_so (IsLawfulTerm domains) (IsLawfulTerm (domains ++ more)) term-more row lawful.named; short = lawful.short }
 
   print-more : (p : Print) → IsLawfulPrint domains p → IsLawfulPrint (domains ++ more) p
   print-more All lawful = lawful
   print-more Nothing lawful = lawful
-  print-more (Rows rows) lawful = AllByRecursion-map (IsLawfulRow domains) (IsLawfulRow (domains ++ more)) row-more rows lawful
+  print-more (Rows rows) lawful = all_so (IsLawfulRow domains) (IsLawfulRow (domains ++ more)) row-more rows lawful
 
 -- a name that is no declaration's isn't one with a further declaration of another name
 called-push : {X : Type 0} (name_of : X → List ℕ) (xs : List X) (x : X) (name : List ℕ) → called name_of xs name ≡ None → (bytes_eq name (name_of x) ≡ false) → called name_of (xs ++ x ∷ []) name ≡ None
@@ -196,16 +184,16 @@ IsLawful-declare p d lawful new fresh unused first room =
     let more = map (λ x. x.domain) (replicate (size_of_dims d.dims) d) in
     let grown = sym (domains_of-push p.decls d) in
     record {
-      decls = AllByRecursion-push IsLawfulDecl p.decls d lawful.decls new;
+      decls = all_push IsLawfulDecl p.decls d lawful.decls new;
       distinct = AreNewAfter-push (λ d. d.name) [] p.decls d lawful.distinct fresh;
       numbered = AreNumberedFrom-push 0 p.decls d lawful.numbered (omega arith);
       few_variables = omega (arith, variable_count-push p.decls d);
-      aliases = subst (λ domains. AllByRecursion (IsLawfulAlias domains) p.aliases) grown (AllByRecursion-map (IsLawfulAlias (domains_of p.decls)) (IsLawfulAlias (domains_of p.decls ++ more)) (alias-more (domains_of p.decls) more) p.aliases lawful.aliases);
+      aliases = subst (λ domains. AllByRecursion (IsLawfulAlias domains) p.aliases) grown (all_so (IsLawfulAlias (domains_of p.decls)) (IsLawfulAlias (domains_of p.decls ++ more)) (alias-more (domains_of p.decls) more) p.aliases lawful.aliases);
       new_aliases = lawful.new_aliases;
       apart = apart-more p.decls d p.aliases lawful.apart unused;
       tuples = lawful.tuples;
       new_tuples = lawful.new_tuples;
-      cons = subst (λ domains. AllByRecursion (IsLawfulCon domains p.tuples) p.cons) grown (AllByRecursion-map (IsLawfulCon (domains_of p.decls) p.tuples) (IsLawfulCon (domains_of p.decls ++ more) p.tuples) (con-more (domains_of p.decls) more p.tuples) p.cons lawful.cons);
+      cons = subst (λ domains. AllByRecursion (IsLawfulCon domains p.tuples) p.cons) grown (all_so (IsLawfulCon (domains_of p.decls) p.tuples) (IsLawfulCon (domains_of p.decls ++ more) p.tuples) (con-more (domains_of p.decls) more p.tuples) p.cons lawful.cons);
       few_constraints = lawful.few_constraints;
       few_cells = lawful.few_cells;
       order = subst (λ domains. IsLawfulOrder domains p.order) grown (order-more (domains_of p.decls) more p.order lawful.order);
@@ -220,9 +208,9 @@ IsLawful-alias p a lawful new fresh unused = record {
   distinct = lawful.distinct;
   numbered = lawful.numbered;
   few_variables = lawful.few_variables;
-  aliases = AllByRecursion-push (IsLawfulAlias (domains_of p.decls)) p.aliases a lawful.aliases new;
+  aliases = all_push (IsLawfulAlias (domains_of p.decls)) p.aliases a lawful.aliases new;
   new_aliases = AreNewAfter-push (λ a. a.name) [] p.aliases a lawful.new_aliases unused;
-  apart = AllByRecursion-push (λ a. declared_as p.decls a.name ≡ None) p.aliases a lawful.apart fresh;
+  apart = all_push (λ a. declared_as p.decls a.name ≡ None) p.aliases a lawful.apart fresh;
   tuples = lawful.tuples;
   new_tuples = lawful.new_tuples;
   cons = lawful.cons;
@@ -253,7 +241,7 @@ con-listed domains lists t c lawful = record {
   bits = lawful.bits;
   constants = lawful.constants;
   short = lawful.short;
-  tables = AllByRecursion-map (SuitsTable lists) (SuitsTable (lists ++ t ∷ [])) (table-more lists t) (tables c) lawful.tables;
+  tables = all_so (SuitsTable lists) (SuitsTable (lists ++ t ∷ [])) (table-more lists t) (tables c) lawful.tables;
   shaped = lawful.shaped;
   nested = lawful.nested;
   written = lawful.written;
@@ -269,9 +257,9 @@ IsLawful-tuples p t lawful new unused room = record {
   aliases = lawful.aliases;
   new_aliases = lawful.new_aliases;
   apart = lawful.apart;
-  tuples = AllByRecursion-push IsLawfulTuples p.tuples t lawful.tuples new;
+  tuples = all_push IsLawfulTuples p.tuples t lawful.tuples new;
   new_tuples = AreNewAfter-push (λ t. t.name) [] p.tuples t lawful.new_tuples unused;
-  cons = AllByRecursion-map (IsLawfulCon (domains_of p.decls) p.tuples) (IsLawfulCon (domains_of p.decls) (p.tuples ++ t ∷ [])) (con-listed (domains_of p.decls) p.tuples t) p.cons lawful.cons;
+  cons = all_so (IsLawfulCon (domains_of p.decls) p.tuples) (IsLawfulCon (domains_of p.decls) (p.tuples ++ t ∷ [])) (con-listed (domains_of p.decls) p.tuples t) p.cons lawful.cons;
   few_constraints = lawful.few_constraints;
   few_cells = omega (arith, total-push (λ t. length t.cells) p.tuples t, room);
   order = lawful.order;
@@ -291,7 +279,7 @@ IsLawful-add p c lawful new room cells = record {
   apart = lawful.apart;
   tuples = lawful.tuples;
   new_tuples = lawful.new_tuples;
-  cons = AllByRecursion-push (IsLawfulCon (domains_of p.decls) p.tuples) p.cons c lawful.cons new;
+  cons = all_push (IsLawfulCon (domains_of p.decls) p.tuples) p.cons c lawful.cons new;
   few_constraints = omega (arith, length-append p.cons (c ∷ []), room);
   few_cells = omega (arith, total-push cell_count p.cons c, cells);
   order = lawful.order;

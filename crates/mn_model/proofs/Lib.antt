@@ -1,11 +1,15 @@
 pub mod Ascending
 pub mod Children
+pub mod Filtered
 pub mod Found
 pub mod Growing
 pub mod Kept
+pub mod Lists
 pub mod Looking
 pub mod NameParts
+pub mod Named
 pub mod Near
+pub mod Ordered
 pub mod Sizes
 pub mod Stretches
 pub mod Variables

@@ -15,6 +15,7 @@ use Rattle.mn_model.specs.declared.declaration.Decl.{Decl}
 use Rattle.mn_model.specs.declared.instance.Entry.{Entry}
 use Rattle.mn_model.specs.declared.variable.VarId.{VarId}
 use Rattle.mn_model.specs.declared.instance.Entry.TheVariants.{Declared, Aliased}
+use Rattle.mn_model.proofs.Lists.{some_there}
 
 -- a declared name is no alias, where no alias has a declared name
 pub no_alias : (decls : List Decl) (aliases : List Alias) (name : List ℕ) (d : Decl) → AllByRecursion (λ a. declared_as decls a.name ≡ None) aliases → declared_as decls name ≡ Some d → aliased_as aliases name ≡ None
@@ -35,12 +36,6 @@ no_declaration decls aliases name a apart e = by (declared_as decls name) refl
     by : (r : Option Decl) → declared_as decls name ≡ r → r ≡ None
     by None is = refl
     by (Some d) is = let none : aliased_as aliases name ≡ None = no_alias decls aliases name d apart is in cc
-
--- what stands at a place of a list
-pub some_there : {X : Type 0} (xs : List X) (k : ℕ) → k < length xs → (x : X) × (slice_get xs k ≡ Some x)
-some_there [] k within = absurd (omega arith)
-some_there (x ∷ xs) zero within = (x, refl)
-some_there (x ∷ xs) (suc k) within = some_there xs k (omega arith)
 
 -- a variable below a bound is below a greater one
 pub some_less : (r : Option VarId) {m n : ℕ} → m ≤ n → IfSome r (λ v. number_of v < m) → IfSome r (λ v. number_of v < n)

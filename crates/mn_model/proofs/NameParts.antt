@@ -11,7 +11,7 @@ is_name-parts (c ∷ []) h = absurd (omega arith)
 is_name-parts (c ∷ d ∷ others) h = refl
 
 -- the characters of a name are ASCII
-ascii : (c : ℕ) → continues_name c ≡ true → c < 128
+pub ascii : (c : ℕ) → continues_name c ≡ true → c < 128
 ascii c h = grind (arith, nat_tests)
 
 pub ascii_name : (name : List ℕ) (i : ℕ) → IsName name → i < length name → get_or name i 0 < 128

@@ -14,7 +14,7 @@ shaped-drop zero dims shaped = shaped
 shaped-drop (suc i) [] shaped = shaped
 shaped-drop (suc i) (dim ∷ dims) shaped = shaped-drop i dims shaped.1
 
-suc_plus_one : (i : ℕ) → suc i + 1 ≡ suc (i + 1)
+pub suc_plus_one : (i : ℕ) → suc i + 1 ≡ suc (i + 1)
 suc_plus_one i = omega arith
 
 -- one dimension more, of what is left

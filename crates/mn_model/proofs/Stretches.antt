@@ -60,6 +60,10 @@ IsDomainFrom-stretch lo hi ordered low high = record {
   last = rw (length-numbers_from lo (suc (int_gap lo hi))) (rw (slice_get-numbers_from lo (suc (int_gap lo hi)) (suc (int_gap lo hi) - 1) (omega arith)) (ap Some (omega (arith, ints, plus-int_gap lo hi ordered))));
 }
 
+pub Ascends-stretch : (lo hi : ℤ) → Ascends (stretch lo hi)
+unfolding stretch
+Ascends-stretch lo hi = Ascends-numbers_from lo (suc (int_gap lo hi))
+
 pub length-stretch : (lo hi : ℤ) → lo ≤ℤ hi → pos (length (stretch lo hi)) ≡ hi -ℤ lo +ℤ pos 1
 unfolding stretch
 length-stretch lo hi ordered = ap pos (length-numbers_from lo (suc (int_gap lo hi))) ∙ omega (arith, ints, plus-int_gap lo hi ordered)

@@ -1,7 +1,8 @@
 -- The variables of declarations, and the places of their declarations.
-use Rattle.std.proofs.Common.{◌≡◌, ℕ, zero, suc, ◌+◌, ◌-◌, ◌<◌, ◌≤◌, ◌⊎◌, List, [], ◌∷◌, ◌++◌, length, map, replicate, slice_get, get_or, Some, refl, sym, ap, ◌∙◌, inl, inr, arith, length-append}
-use Rattle.std.proofs.lemmas.List.{length-replicate}
+use Rattle.std.proofs.Common.{◌≡◌, ℕ, zero, suc, ◌+◌, ◌-◌, ◌<◌, ◌≤◌, List, [], ◌∷◌, ◌++◌, length, replicate, slice_get, get_or, Some, refl, sym, ap, ◌∙◌, inl, inr, arith, length-append}
+use Rattle.std.proofs.lemmas.List.{length-replicate, length-map}
 use Rattle.std.proofs.lemmas.Option.{get_or_from_slice_get}
+use Rattle.std.proofs.lemmas.Bool.{cases_lt}
 use Rattle.mn_model.specs.Index.{owners_from}
 use Rattle.mn_model.specs.Problem.{size_of_dims, variables_of, variable_count, domains_of}
 use Rattle.mn_model.specs.declared.declaration.Decl.{Decl}
@@ -29,12 +30,7 @@ pub record OwnedAt (n : ℕ) (decls : List Decl) (v : ℕ) : Type 0 where
   pub owner : slice_get (owners_from n decls) v ≡ Some (n + place)
   pub declared : slice_get (variables_of decls) v ≡ slice_get decls place
 
-side : (a b : ℕ) → (a < b) ⊎ (b ≤ a)
-side a zero = inr (omega arith)
-side zero (suc b) = inl (omega arith)
-side (suc a) (suc b) = elim (side a b) [ inl h ↦ inl (omega arith) | inr h ↦ inr (omega arith) ]
-
-variable_count-cons : (d : Decl) (decls : List Decl) → variable_count (d ∷ decls) ≡ size_of_dims d.dims + variable_count decls
+pub variable_count-cons : (d : Decl) (decls : List Decl) → variable_count (d ∷ decls) ≡ size_of_dims d.dims + variable_count decls
 variable_count-cons d decls = length-append (replicate (size_of_dims d.dims) d) (variables_of decls) ∙ ap (λ k. k + variable_count decls) (length-replicate (size_of_dims d.dims) d)
 
 owned_here : (n : ℕ) (d : Decl) (decls : List Decl) (v : ℕ) → v < size_of_dims d.dims → OwnedAt n (d ∷ decls) v
@@ -56,7 +52,7 @@ owned_there n d decls v there rest = record {
 pub owned_at : (n : ℕ) (decls : List Decl) (v : ℕ) → v < variable_count decls → OwnedAt n decls v
 owned_at n [] v below = absurd (omega arith)
 owned_at n (d ∷ decls) v below =
-    elim (side v (size_of_dims d.dims)) [
+    elim (cases_lt v (size_of_dims d.dims)) [
       | inl here ↦ owned_here n d decls v here
       | inr there ↦ owned_there n d decls v there (owned_at (n + 1) decls (v - size_of_dims d.dims) (omega (arith, variable_count-cons d decls)))
     ]
@@ -73,8 +69,4 @@ module _ (decls : List Decl) (v place : ℕ) (known : v < variable_count decls) 
   owner-declares = (owned_at 0 decls v known).declared ∙ ap (slice_get decls) (sym owner-is)
 
 pub length-domains_of : (decls : List Decl) → length (domains_of decls) ≡ variable_count decls
-length-domains_of decls = length-map-domain (variables_of decls)
-  where
-    length-map-domain : (ds : List Decl) → length (map (λ d. d.domain) ds) ≡ length ds
-    length-map-domain [] = refl
-    length-map-domain (d ∷ ds) = ap suc (length-map-domain ds)
+length-domains_of decls = length-map (variables_of decls) (λ d. d.domain)

@@ -1,8 +1,10 @@
 -- The words that break no rule are the lawful ones.
-use Rattle.std.proofs.Common.{◌≡◌, ◌⊎◌, Bool, true, false, ◌||◌, cond, List, [], ◌∷◌, ◌++◌, append-nil, append_assoc, Option, Some, None, refl, sym, ap, subst, inl, inr}
+use Rattle.std.proofs.Common.{◌≡◌, Bool, true, false, cond, List, [], ◌∷◌, ◌++◌, append-nil, append_assoc, Option, Some, None, refl, sym, ap, subst, inl, inr}
 use Rattle.std.specs.List.{AllByRecursion}
 use Rattle.std.specs.Option.{option_or}
+use Rattle.std.proofs.lemmas.Bool.{false_from_ne_true, or_cases, or_left, or_right}
 use Rattle.mn_model.specs.Members.{AreDistinct, HasMember}
+use Rattle.mn_model.proofs.Lists.{all_so, member_front, all_both, member_back, member_of_either}
 use Rattle.mn_options.proofs.Lawful.{is_named, neither}
 use Rattle.mn_options.specs.Laws.{AreLawful}
 use Rattle.mn_options.specs.Rules.{asks_for, broken_by, first_broken_behind, names_model, same_option}
@@ -28,17 +30,6 @@ first_none : {X : Type 0} (a b : Option X) → option_or a b ≡ None → a ≡ 
 first_none None b e = refl
 first_none (Some x) b e = cc
 
-or_either : (a b : Bool) → (a || b) ≡ true → (a ≡ true) ⊎ (b ≡ true)
-or_either true b e = inl refl
-or_either false b e = inr e
-
-or_left : (a b : Bool) → a ≡ true → (a || b) ≡ true
-or_left a b e = rw e refl
-
-or_right : (a b : Bool) → b ≡ true → (a || b) ≡ true
-or_right true b e = refl
-or_right false b e = e
-
 -- an option is asked for where it is one of the words
 asked : (o : CommandOption) (words : List Word) → HasMember words (Listed o) → asks_for o words ≡ true
 asked o [] member = absurd member
@@ -47,7 +38,7 @@ asked o (word ∷ words) (inr later) = or_right _ (asks_for o words) (asked o wo
 
 asker : (o : CommandOption) (words : List Word) → asks_for o words ≡ true → HasMember words (Listed o)
 asker o [] e = cc
-asker o (Listed p ∷ words) e = elim (or_either (same_option o p) (asks_for o words) e) [ inl here ↦ inl (ap Listed (sym (same_is o p here))) | inr later ↦ inr (asker o words later) ]
+asker o (Listed p ∷ words) e = elim (or_cases (same_option o p) (asks_for o words) e) [ inl here ↦ inl (ap Listed (sym (same_is o p here))) | inr later ↦ inr (asker o words later) ]
 asker o (Unlisted ∷ words) e = inr (asker o words e)
 asker o (Model ∷ words) e = inr (asker o words e)
 
@@ -63,10 +54,6 @@ namer (Listed p ∷ words) e = inr (namer words e)
 namer (Unlisted ∷ words) e = inr (namer words e)
 namer (Model ∷ words) e = inl refl
 
-not_true : (b : Bool) → (b ≡ true → ⊥) → b ≡ false
-not_true true not = absurd (not refl)
-not_true false not = refl
-
 unless_true : {X : Type 0} (b : Bool) (x : X) → cond b (Some x) None ≡ None → b ≡ true → ⊥
 unless_true true x e is = cc
 unless_true false x e is = cc
@@ -78,32 +65,13 @@ broken_none before Unlisted e = absurd cc
 broken_none before Model e = (λ same. cc, λ member. unless_true (names_model before) _ e (named before member))
 
 none_broken : (before : List Word) (word : Word) → (word ≡ Unlisted → ⊥) → (HasMember before word → ⊥) → broken_by before word ≡ None
-none_broken before (Listed o) listed new = rw (not_true (asks_for o before) (λ e. new (asker o before e))) refl
+none_broken before (Listed o) listed new = rw (false_from_ne_true (asks_for o before) (λ e. new (asker o before e))) refl
 none_broken before Unlisted listed new = absurd (listed refl)
-none_broken before Model listed new = rw (not_true (names_model before) (λ e. new (namer before e))) refl
+none_broken before Model listed new = rw (false_from_ne_true (names_model before) (λ e. new (namer before e))) refl
 
-front : {X : Type 0} (xs ys : List X) (x : X) → HasMember xs x → HasMember (xs ++ ys) x
-front [] ys x member = absurd member
-front (y ∷ xs) ys x (inl same) = inl same
-front (y ∷ xs) ys x (inr later) = inr (front xs ys x later)
-
-back : {X : Type 0} (xs : List X) (y : X) → HasMember (xs ++ y ∷ []) y
-back [] y = inl refl
-back (x ∷ xs) y = inr (back xs y)
-
-either : {X : Type 0} (xs : List X) (y x : X) → HasMember (xs ++ y ∷ []) x → HasMember xs x ⊎ (y ≡ x)
-either [] y x (inl same) = inr same
-either [] y x (inr later) = absurd later
-either (z ∷ xs) y x (inl same) = inl (inl same)
-either (z ∷ xs) y x (inr later) = elim (either xs y x later) [ inl here ↦ inl (inr here) | inr same ↦ inr same ]
-
-each : {X : Type 0} (P Q : X → Type 0) → ((x : X) → P x → Q x) → (xs : List X) → AllByRecursion P xs → AllByRecursion Q xs
-each P Q step [] all = tt
-each P Q step (x ∷ xs) all = (step x all.0, each P Q step xs all.1)
-
-both : {X : Type 0} (P Q : X → Type 0) (xs : List X) → AllByRecursion P xs → AllByRecursion Q xs → AllByRecursion (λ x. P x × Q x) xs
-both P Q [] all others = tt
-both P Q (x ∷ xs) all others = ((all.0, others.0), both P Q xs all.1 others.1)
+only : (word x : Word) → HasMember (word ∷ []) x → word ≡ x
+only word x (inl same) = same
+only word x (inr none) = absurd none
 
 -- words that are lawful behind others
 record AreLawfulBehind (before words : List Word) : Type 0 where
@@ -119,8 +87,8 @@ lawful_behind before (word ∷ words) e =
     let later = lawful_behind (before ++ word ∷ []) words (neither (broken_by before word) (first_broken_behind (before ++ word ∷ []) words) e) in
     record {
       listed = (here.0, later.listed);
-      new = (here.1, each (λ x. HasMember (before ++ word ∷ []) x → ⊥) (λ x. HasMember before x → ⊥) (λ x not member. not (front before (word ∷ []) x member)) words later.new);
-      once = (each (λ x. HasMember (before ++ word ∷ []) x → ⊥) (λ x. word ≡ x → ⊥) (λ x not same. not (subst (HasMember (before ++ word ∷ [])) same (back before word))) words later.new, later.once);
+      new = (here.1, all_so (λ x. HasMember (before ++ word ∷ []) x → ⊥) (λ x. HasMember before x → ⊥) (λ x not member. not (member_front before (word ∷ []) x member)) words later.new);
+      once = (all_so (λ x. HasMember (before ++ word ∷ []) x → ⊥) (λ x. word ≡ x → ⊥) (λ x not same. not (subst (HasMember (before ++ word ∷ [])) same (member_back before (word ∷ []) word (inl refl)))) words later.new, later.once);
       model = rw append_assoc at later.model;
     }
 
@@ -130,9 +98,8 @@ unbroken_behind before (word ∷ words) all =
     rw (none_broken before word all.listed.0 all.new.0)
     (unbroken_behind (before ++ word ∷ []) words (record {
       listed = all.listed.1;
-      new = each (λ x. (HasMember before x → ⊥) × (word ≡ x → ⊥)) (λ x. HasMember (before ++ word ∷ []) x → ⊥)
-          (λ x not member. elim (either before word x member) [ inl here ↦ not.0 here | inr same ↦ not.1 same ]) words
-          (both (λ x. HasMember before x → ⊥) (λ x. word ≡ x → ⊥) words all.new.1 all.once.0);
+      new = all_both (λ x. HasMember before x → ⊥) (λ x. word ≡ x → ⊥) (λ x. HasMember (before ++ word ∷ []) x → ⊥)
+          (λ x new differs member. elim (member_of_either before (word ∷ []) x member) [ inl here ↦ new here | inr there ↦ differs (only word x there) ]) words all.new.1 all.once.0;
       once = all.once.1;
       model = rw append_assoc all.model;
     }))

@@ -101,7 +101,7 @@ none_of_fixed : (p : Candidate) (ps : List Candidate) → list_any (λ q. beats 
 none_of_fixed p [] = refl
 none_of_fixed p (q ∷ ps) = none_of_fixed p ps
 
-fixed_first : (p : Candidate) (ps : List Candidate) → first_unbeaten Fixed (p ∷ ps) ≡ Some p
+pub fixed_first : (p : Candidate) (ps : List Candidate) → first_unbeaten Fixed (p ∷ ps) ≡ Some p
 fixed_first p ps = rw (none_of_fixed p ps) refl
 
 -- without an order of sizes it is the first that doesn't have one value

@@ -2,6 +2,7 @@
 use Rattle.std.proofs.Common.{◌≡◌, ◌≤◌, Bool, true, false, not, ◌||◌, List, [], ◌∷◌, ◌++◌, find, Option, Some, None, refl, sym, ap, ◌∙◌}
 use Rattle.std.proofs.lemmas.List.Folds.{list_any-append}
 use Rattle.std.specs.List.{AllByRecursion, list_any}
+use Rattle.std.proofs.lemmas.Bool.{not-false, not-true, or_from, or_left, or_parts, or_right}
 use Rattle.mn_order.proofs.Beaten.{none_beats_itself, beaten_beats_not, beats_more}
 use Rattle.mn_order.specs.Better.{better_of_two}
 use Rattle.mn_order.specs.Choose.{beats, first_unbeaten}
@@ -35,13 +36,9 @@ passes_found f (x ∷ xs) y found = by_test (f x) refl (passes_found f xs y)
     by_test true e later = let here : Some x ≡ Some y = rw e at found in let same : x ≡ y = cc in ap f (sym same) ∙ e
     by_test false e later = later (rw e at found)
 
-or_false : (a b : Bool) → (a || b) ≡ false → (a ≡ false) × (b ≡ false)
-or_false true b e = cc
-or_false false b e = (refl, e)
-
 none_pass : {X : Type 0} (f : X → Bool) (xs : List X) → list_any f xs ≡ false → AllByRecursion (λ x. f x ≡ false) xs
 none_pass f [] e = tt
-none_pass f (x ∷ xs) e = let both = or_false (f x) (list_any f xs) e in (both.0, none_pass f xs both.1)
+none_pass f (x ∷ xs) e = let both = or_parts (f x) (list_any f xs) e in (both.0, none_pass f xs both.1)
 
 any_false : {X : Type 0} (f : X → Bool) (xs : List X) → AllByRecursion (λ x. f x ≡ false) xs → list_any f xs ≡ false
 any_false f [] none = refl
@@ -50,24 +47,6 @@ any_false f (x ∷ xs) none = rw none.0 (any_false f xs none.1)
 each : {X : Type 0} (P Q : X → Type 0) → ((x : X) → P x → Q x) → (xs : List X) → AllByRecursion P xs → AllByRecursion Q xs
 each P Q step [] all = tt
 each P Q step (x ∷ xs) all = (step x all.0, each P Q step xs all.1)
-
-or_right : (a b : Bool) → b ≡ true → (a || b) ≡ true
-or_right true b e = refl
-or_right false b e = e
-
-or_left : (a b : Bool) → a ≡ true → (a || b) ≡ true
-or_left a b e = rw e refl
-
-or_neither : (a b : Bool) → a ≡ false → b ≡ false → (a || b) ≡ false
-or_neither a b e f = rw (e, f) refl
-
-not_false : (b : Bool) → not b ≡ false → b ≡ true
-not_false true e = refl
-not_false false e = cc
-
-not_true : (b : Bool) → not b ≡ true → b ≡ false
-not_true true e = cc
-not_true false e = refl
 
 -- none of these beats x
 abbrev pub is_unbeaten : Choice → List Candidate → Candidate → Bool
@@ -81,11 +60,11 @@ beaten_by_last choice ps p x e =
 -- and so is one that is beaten already
 beaten_before : (choice : Choice) (ps : List Candidate) (p x : Candidate) → is_unbeaten choice ps x ≡ false → is_unbeaten choice (ps ++ p ∷ []) x ≡ false
 beaten_before choice ps p x e =
-    rw (list_any-append (λ q. beats choice q x) ps (p ∷ []), or_left (list_any (λ q. beats choice q x) ps) (beats choice p x || false) (not_false _ e)) refl
+    rw (list_any-append (λ q. beats choice q x) ps (p ∷ []), or_left (list_any (λ q. beats choice q x) ps) (beats choice p x || false) (not-false _ e)) refl
 
 unbeaten_by_last : (choice : Choice) (ps : List Candidate) (p x : Candidate) → list_any (λ q. beats choice q x) ps ≡ false → beats choice p x ≡ false → is_unbeaten choice (ps ++ p ∷ []) x ≡ true
 unbeaten_by_last choice ps p x e f =
-    rw (list_any-append (λ q. beats choice q x) ps (p ∷ []), or_neither (list_any (λ q. beats choice q x) ps) (beats choice p x || false) e (or_neither _ false f refl)) refl
+    rw (list_any-append (λ q. beats choice q x) ps (p ∷ []), or_from (list_any (λ q. beats choice q x) ps) (beats choice p x || false) e (or_from _ false f refl)) refl
 
 -- what beats the unbeaten one beats all
 beats_all : (choice : Choice) (ps : List Candidate) (p b : Candidate) → AreWhole ps → beats choice p b ≡ true → AllByRecursion (λ q. beats choice q b ≡ false) ps → AllByRecursion (λ q. beats choice p q ≡ true) ps
@@ -107,7 +86,7 @@ one_more choice ps p None whole is none = let empty : ps ≡ [] = none refl in r
 one_more choice ps p (Some b) whole is none = by_test (beats choice p b) refl
   where
     unbeaten : list_any (λ q. beats choice q b) ps ≡ false
-    unbeaten = not_true _ (passes_found (is_unbeaten choice ps) ps b (sym is))
+    unbeaten = not-true _ (passes_found (is_unbeaten choice ps) ps b (sym is))
 
     by_test : (beaten : Bool) → beats choice p b ≡ beaten → better_of_two choice (Some b) p ≡ first_unbeaten choice (ps ++ p ∷ [])
     by_test true e = rw e (sym (last_is_first choice ps p (beats_all choice ps p b whole e (none_pass (λ q. beats choice q b) ps unbeaten))))

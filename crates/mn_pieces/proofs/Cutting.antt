@@ -1,6 +1,5 @@
 -- Pieces are cut one after another.
-use Rattle.std.proofs.Common.{◌≡◌, ℕ, ◌+◌, Bool, true, false, List, [], ◌∷◌, ◌++◌, length, take, drop, map, None, codes, refl, sym, ap, ◌∙◌, subst}
-use Rattle.std.specs.Prelude.{MatchBool}
+use Rattle.std.proofs.Common.{◌≡◌, ℕ, ◌+◌, List, [], ◌∷◌, ◌++◌, length, take, drop, map, None, codes, refl, sym, ap, ◌∙◌, subst}
 use Rattle.std.specs.Str.{bytes_eq}
 use Rattle.std.proofs.Math.Seq.{take-append_seam}
 use Rattle.std.proofs.lemmas.List.{drop-drop}
@@ -9,18 +8,13 @@ use Rattle.mn_lexer.specs.Gaps.{gap}
 use Rattle.mn_lexer.specs.Reading.{bytes_of, IsAllowed, IsNext, Cuts}
 use Rattle.mn_lexer.specs.Terminals.{terminal, token_of}
 use Rattle.mn_lexer.specs.declared.Token.{Token}
+use Rattle.mn_lexer.proofs.Readings.{case_false, case_true}
 use Rattle.mn_pieces.specs.Pieces.{Piece, written, IsApart, AreApart, tokens_from, PiecesAreTokens}
 use Rattle.mn_pieces.proofs.Fronts.{longest_piece, gap_is}
 
 drop_front : (xs ys : List ℕ) → drop (length xs) (xs ++ ys) ≡ ys
 drop_front [] ys = refl
 drop_front (x ∷ xs) ys = drop_front xs ys
-
-case_true : {b : Bool} (P Q : Type 0) → b ≡ true → P → MatchBool b P Q
-case_true P Q e p = subst (λ x. MatchBool x P Q) (sym e) p
-
-case_false : {b : Bool} (P Q : Type 0) → b ≡ false → Q → MatchBool b P Q
-case_false P Q e q = subst (λ x. MatchBool x P Q) (sym e) q
 
 module _ (text : List ℕ) (at : ℕ) (p : Piece) (behind : List ℕ) (here : drop at text ≡ p.blanks ++ (p.bytes ++ behind)) where
   abbrev token : Token

@@ -1,8 +1,8 @@
 -- Pieces with a blank or a mark between them keep apart.
-use Rattle.std.proofs.Common.{◌≡◌, ◌⊎◌, ℕ, Bool, true, false, ◌||◌, List, [], ◌∷◌, ◌++◌, refl, sym, ap, subst, ⊎_elim, inl, inr, arith}
+use Rattle.std.proofs.Common.{◌≡◌, ◌⊎◌, ℕ, true, false, ◌||◌, List, [], ◌∷◌, ◌++◌, refl, sym, ap, subst, ⊎_elim, arith}
 use Rattle.std.specs.Char.{is_ascii_digit}
 use Rattle.std.specs.List.{list_all}
-use Rattle.std.proofs.lemmas.Bool.{and_parts}
+use Rattle.std.proofs.lemmas.Bool.{and_parts, or_cases}
 use Rattle.std.proofs.lemmas.Bool.Decides.{nat_tests}
 use Rattle.mn_lexer.specs.Bytes.{is_blank, is_word_byte}
 use Rattle.mn_lexer.specs.Forms.{HasForm}
@@ -60,13 +60,9 @@ begins_so : (k : TokenKind) (blanks bytes bs : List ℕ) (l : TokenKind) → lis
 begins_so k [] bytes bs l blank form apart = kind_stops k l bytes bs apart form
 begins_so k (b ∷ blanks) bytes bs l blank form apart = stops_at k b (blanks ++ (bytes ++ bs)) (blank_goes_nowhere b (and_parts (is_blank b) _ blank).0)
 
-either_true : (a b : Bool) → (a || b) ≡ true → (a ≡ true) ⊎ (b ≡ true)
-either_true true b e = inl refl
-either_true false b e = inr e
-
 neighbours : (p q : Piece) (bs : List ℕ) → (ends_itself p.kind || begins_apart q) ≡ true → IsPiece q → goes_on p.kind (q.blanks ++ (q.bytes ++ bs)) ≡ false
 neighbours p q bs part piece =
-    ⊎_elim (λ ends. by_itself p.kind _ ends) (λ apart. begins_so p.kind q.blanks q.bytes bs q.kind piece.blank piece.form apart) (either_true _ _ part)
+    ⊎_elim (λ ends. by_itself p.kind _ ends) (λ apart. begins_so p.kind q.blanks q.bytes bs q.kind piece.blank piece.form apart) (or_cases _ _ part)
 
 first_piece : (q : Piece) (ps : List Piece) → AreSpaced (q ∷ ps) → IsPiece q
 first_piece q [] spaced = spaced.0

@@ -1,11 +1,7 @@
 -- What stands on a page with a whole text.
-use Rattle.std.proofs.Common.{◌≡◌, ℕ, ◌+◌, ◌-◌, ◌<◌, ◌≤◌, min, List, length, take, ap, ◌∙◌, arith}
-use Rattle.std.proofs.lemmas.Grind.{common_steps}
+use Rattle.std.proofs.Common.{◌≡◌, ℕ, ◌+◌, ◌-◌, ◌<◌, ◌≤◌, min, List, length, ap, ◌∙◌, arith, take_all}
 use Rattle.mn_model.specs.declared.limits.TheConstants.{TEXT_BYTES}
 use Rattle.mn_printer.specs.Pages.{Written, onto, blank, greatest}
-
-taken_all : (limit : ℕ) (xs : List ℕ) → length xs ≤ limit → take limit xs ≡ xs
-taken_all limit xs all = grind (arith, common_steps)
 
 pub count_is : (page : Written) (text : List ℕ) → page ≡ onto blank text → page.count ≡ min (length text) greatest
 unfolding onto blank
@@ -22,4 +18,4 @@ length_past n count e many = omega arith
 
 pub kept_is : (page : Written) (text : List ℕ) → page ≡ onto blank text → length text ≤ TEXT_BYTES → page.kept ≡ text
 unfolding onto blank
-kept_is page text e few = ap (λ (w : Written). w.kept) e ∙ taken_all TEXT_BYTES text few
+kept_is page text e few = ap (λ (w : Written). w.kept) e ∙ take_all TEXT_BYTES text few

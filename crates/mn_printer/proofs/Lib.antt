@@ -2,7 +2,6 @@ pub mod Joining
 pub mod Separating
 pub mod Owners
 pub mod Sizes
-pub mod NameParts
 pub mod Rows
 pub mod Made
 pub mod Values

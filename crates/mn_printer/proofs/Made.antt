@@ -1,46 +1,18 @@
 -- Forms around other constraints as code makes them, and how they are written.
-use Rattle.std.proofs.Common.{◌≡◌, ℕ, ◌<◌, ◌≤◌, List, [], ◌∷◌, ◌++◌, codes, refl, ap, sym, ◌∙◌, arith}
+use Rattle.std.proofs.Common.{◌≡◌, ℕ, List, [], ◌∷◌, ◌++◌, codes, ap, sym, ◌∙◌, arith}
 use Rattle.std.proofs.lemmas.Grind.{common_steps}
 use Rattle.std.specs.List.{flat_map}
-use Rattle.mn_model.specs.Negation.{more, reified, negated}
 use Rattle.mn_model.specs.Problem.{Problem}
-use Rattle.mn_model.specs.declared.constraint.Con.{Con, size-Con}
-use Rattle.mn_model.specs.declared.constraint.Cons.{Cons, size-Cons}
-use Rattle.mn_model.specs.declared.constraint.Con.TheViews.{sized-More}
+use Rattle.mn_model.specs.declared.constraint.Con.{Con}
+use Rattle.mn_model.specs.declared.constraint.Cons.{Cons}
 use Rattle.mn_model.specs.declared.constraint.Con.TheVariants as made
-use Rattle.mn_model.specs.declared.constraint.Con.TheBlock.{more_of-Con, end_of-Con}
 use Rattle.mn_model.specs.declared.constraint.Term.{Term}
+use Rattle.mn_model.proofs.Children.{made_implied, made_more, made_negated, made_reified}
 use Rattle.mn_canonical.specs.Constraints.{constraint_text, children_texts, form_text, gathered_text}
 use Rattle.mn_canonical.specs.Lists.{with_commas, braced}
 use Rattle.mn_canonical.specs.Names.{term_text}
 use Rattle.mn_printer.specs.Pages.{Written, onto}
 use Rattle.mn_printer.proofs.Joining.{onto_joined}
-
-abbrev pub implied : Con → Term → Con
-implied c r = made.Reifyimply' tt (more_of-Con c end_of-Con) r
-
-pub made_more : (c : Con) (others : Cons) → made.More c others ≡ more c others
-unfolding Rattle.mn_model.specs.declared.constraint.Con.TheBlock.shape-the_row-Con-0 Rattle.mn_model.specs.declared.constraint.Con.TheBlock.hidden-the_row-Con-0 Rattle.mn_model.specs.declared.constraint.Con.TheBlock.shape-the_row-Cons-1 Rattle.mn_model.specs.declared.constraint.Con.TheBlock.hidden-the_row-Cons-1 denote.Hole.Carrier.hidden
-made_more c others = refl
-
-pub made_reified : (c : Con) (r : Term) → made.Reify c r ≡ reified c r
-unfolding Rattle.mn_model.specs.declared.constraint.Con.TheBlock.shape-the_row-Con-0 Rattle.mn_model.specs.declared.constraint.Con.TheBlock.hidden-the_row-Con-0 denote.Hole.Carrier.hidden
-made_reified c r = refl
-
-pub made_negated : (c : Con) → made.Negated c ≡ negated c
-unfolding Rattle.mn_model.specs.declared.constraint.Con.TheBlock.shape-the_row-Con-0 Rattle.mn_model.specs.declared.constraint.Con.TheBlock.hidden-the_row-Con-0 denote.Hole.Carrier.hidden
-made_negated c = refl
-
-pub made_implied : (c : Con) (r : Term) → made.Reifyimply c r ≡ implied c r
-unfolding Rattle.mn_model.specs.declared.constraint.Con.TheBlock.shape-the_row-Con-0 Rattle.mn_model.specs.declared.constraint.Con.TheBlock.hidden-the_row-Con-0 denote.Hole.Carrier.hidden
-made_implied c r = refl
-
--- what is behind a child is less deep, and so is the child
-pub others_below : (c : Con) (others : Cons) → size-Cons others ≤ size-Cons (made.More c others)
-others_below c others = omega (arith, sized-More c others)
-
-pub first_below : (all : Cons) (c : Con) (others : Cons) → all ≡ made.More c others → size-Con c < size-Cons all
-first_below all c others is = omega (arith, sized-More c others, ap size-Cons is)
 
 -- the texts
 pub text_reified : (p : Problem) (all c d : Con) (r : Term) → all ≡ made.Reify c r → d ≡ c → form_text (codes "reify") (constraint_text p d ∷ term_text p r ∷ []) ≡ constraint_text p all

@@ -1,9 +1,9 @@
 -- Dimensions of 1 before others.
-use Rattle.std.proofs.Common.{◌≡◌, ℕ, zero, suc, ◌+◌, ◌-◌, ◌<◌, ◌≤◌, List, [], ◌∷◌, ◌++◌, length, take, drop, replicate, get_or, codes, refl, ap, sym, ◌∙◌, arith}
+use Rattle.std.proofs.Common.{◌≡◌, ℕ, zero, suc, ◌+◌, ◌-◌, ◌<◌, ◌≤◌, List, [], ◌∷◌, ◌++◌, length, take, drop, replicate, get_or, codes, refl, ap, sym, ◌∙◌, arith, take_all}
 use Rattle.std.proofs.lemmas.Grind.{common_steps}
-use Rattle.std.specs.List.{AllByRecursion}
 use Rattle.mn_model.specs.Problem.{Problem, size_of_dims}
 use Rattle.mn_model.specs.declared.variable.VarId.{VarId}
+use Rattle.mn_model.proofs.Sizes.{suc_plus_one}
 use Rattle.mn_canonical.specs.Declarations.{nested_text}
 use Rattle.mn_canonical.specs.Lists.{bracketed, repeated}
 use Rattle.mn_printer.specs.Pages.{Written, onto}
@@ -20,9 +20,6 @@ one_more_repeated w u (suc left) bytes some written =
 pub no_more_repeated : (left : ℕ) (bytes : List ℕ) → left ≤ 0 → repeated left bytes ≡ []
 no_more_repeated zero bytes none = refl
 no_more_repeated (suc left) bytes none = absurd (omega arith)
-
-suc_plus_one : (i : ℕ) → suc i + 1 ≡ suc (i + 1)
-suc_plus_one i = omega arith
 
 plus_one : (i : ℕ) → i + 1 ≡ suc i
 plus_one i = omega arith
@@ -42,9 +39,6 @@ pub size_passed : (ones : ℕ) (dims : List ℕ) → size_of_dims (replicate one
 size_passed zero dims = refl
 size_passed (suc ones) dims = omega (arith, size_passed ones dims)
 
-taken_all : (limit : ℕ) (xs : List VarId) → length xs ≤ limit → take limit xs ≡ xs
-taken_all limit xs all = grind (arith, common_steps)
-
 repeated_last : (n : ℕ) (b : ℕ) → b ∷ repeated n (b ∷ []) ≡ repeated n (b ∷ []) ++ b ∷ []
 repeated_last zero b = refl
 repeated_last (suc n) b = ap (λ bs. b ∷ bs) (repeated_last n b)
@@ -56,7 +50,7 @@ unfolding bracketed
 nested_ones p zero dims vars short = grind (arith, common_steps)
 nested_ones p (suc ones) dims vars short =
     let size = size_of_dims (replicate ones 1 ++ dims) in
-    let all : take size vars ≡ vars = taken_all size vars (omega (arith, size_passed ones dims)) in
+    let all : take size vars ≡ vars = take_all size vars (omega (arith, size_passed ones dims)) in
     ap (λ vs. (codes "[" ++ (nested_text p (replicate ones 1 ++ dims) vs ++ [])) ++ codes "]") all
     ∙ ap (λ text. (codes "[" ++ (text ++ [])) ++ codes "]") (nested_ones p ones dims vars short)
     ∙ regrouped (repeated ones (codes "[")) (nested_text p dims vars) (repeated ones (codes "]"))
@@ -64,9 +58,3 @@ nested_ones p (suc ones) dims vars short =
   where
     regrouped : (xs ys zs : List ℕ) → (codes "[" ++ (((xs ++ ys) ++ zs) ++ [])) ++ codes "]" ≡ (codes "[" ++ (xs ++ ys)) ++ (zs ++ codes "]")
     regrouped xs ys zs = grind (arith, common_steps)
-
--- what is behind them
-pub shaped_behind : (i : ℕ) (dims : List ℕ) → AllByRecursion (λ dim. 1 ≤ dim) dims → AllByRecursion (λ dim. 1 ≤ dim) (drop i dims)
-shaped_behind zero dims shaped = shaped
-shaped_behind (suc i) [] shaped = shaped
-shaped_behind (suc i) (dim ∷ dims) shaped = shaped_behind i dims shaped.1

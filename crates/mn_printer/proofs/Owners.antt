@@ -2,48 +2,28 @@
 use Rattle.std.proofs.Common.{◌≡◌, ℕ, zero, suc, ◌+◌, ◌-◌, ◌<◌, ◌≤◌, List, [], ◌∷◌, length, replicate, get_or, slice_get, nat_lt, if◌then◌else◌, Bool, true, false, Option, Some, None, refl, ap, sym, ◌∙◌, subst, arith, length-append}
 use Rattle.std.proofs.lemmas.Bool.Decides.{nat_tests}
 use Rattle.std.proofs.lemmas.List.{length-replicate}
-use Rattle.std.specs.List.{AllByRecursion}
+use Rattle.std.proofs.lemmas.Option.{same_Some, slice_get_read}
 use Rattle.mn_model.specs.Lawful.{AreNumberedFrom}
 use Rattle.mn_model.specs.Problem.{size_of_dims, variables_of, variable_count}
 use Rattle.mn_model.specs.Variable.{number_of}
 use Rattle.mn_model.specs.declared.declaration.Decl.{Decl}
+use Rattle.mn_model.proofs.Lists.{some_there}
 use Rattle.mn_canonical.specs.Names.{numbered_text, place_text}
 
 abbrev pub or_else : {X : Type 0} → X → Option X → X
 or_else x None = x
 or_else x (Some y) = y
 
-pub some_same : {X : Type 0} (x y : X) → Some x ≡ Some y → x ≡ y
-some_same x y e = ap (or_else x) e
-
-pub item_is : {X : Type 0} (xs : List X) (i : ℕ) (x : X) → i < length xs → x ≡ get_or xs i x → slice_get xs i ≡ Some x
-item_is [] i x within e = absurd (omega arith)
-item_is (y ∷ xs) zero x within e = ap Some (sym e)
-item_is (y ∷ xs) (suc i) x within e = item_is xs i x (omega arith) e
-
 pub item_same : {X : Type 0} (xs : List X) (i : ℕ) (x y : X) → i < length xs → x ≡ get_or xs i x → slice_get xs i ≡ Some y → x ≡ y
-item_same xs i x y within e is = some_same x y (sym (item_is xs i x within e) ∙ is)
+item_same xs i x y within e is = same_Some x y (sym (slice_get_read xs (length xs) i x refl within e) ∙ is)
 
-pub item_at : {X : Type 0} (xs : List X) (i : ℕ) → i < length xs → (x : X) × (slice_get xs i ≡ Some x)
-item_at [] i within = absurd (omega arith)
-item_at (x ∷ xs) zero within = (x, refl)
-item_at (x ∷ xs) (suc i) within = item_at xs i (omega arith)
-
-pub all_at : {X : Type 0} (P : X → Type 0) (xs : List X) (i : ℕ) (x : X) → AllByRecursion P xs → slice_get xs i ≡ Some x → P x
-all_at P [] i x all is = absurd (nothing x is)
-  where
-    nothing : {X : Type 0} (x : X) → slice_get [] 0 ≡ Some x → ⊥
-    nothing x is = cc
-all_at P (y ∷ xs) zero x all is = subst P (some_same y x is) all.0
-all_at P (y ∷ xs) (suc i) x all is = all_at P xs i x all.1 is
-
-none_there : {X : Type 0} (i : ℕ) (x : X) → slice_get [] i ≡ Some x → ⊥
+pub none_there : {X : Type 0} (i : ℕ) (x : X) → slice_get [] i ≡ Some x → ⊥
 none_there i x is = cc
 
 -- no declaration begins before the first
 pub begins_behind : (b : ℕ) (decls : List Decl) (i : ℕ) (d : Decl) → AreNumberedFrom b decls → slice_get decls i ≡ Some d → b ≤ number_of d.first
 begins_behind b [] i d numbered is = absurd (none_there i d is)
-begins_behind b (e ∷ decls) zero d numbered is = omega (arith, numbered.0, ap (λ (x : Decl). number_of x.first) (some_same e d is))
+begins_behind b (e ∷ decls) zero d numbered is = omega (arith, numbered.0, ap (λ (x : Decl). number_of x.first) (same_Some e d is))
 begins_behind b (e ∷ decls) (suc i) d numbered is = omega (arith, begins_behind (b + size_of_dims e.dims) decls i d numbered.1 is)
 
 first_holds : (d : Decl) (decls : List Decl) (n : ℕ) → n < size_of_dims d.dims → numbered_text (d ∷ decls) n ≡ place_text d n
@@ -74,7 +54,7 @@ pub numbered_at : (b n : ℕ) (decls : List Decl) (i : ℕ) (d : Decl) → AreNu
     → numbered_text decls (n - b) ≡ place_text d (n - number_of d.first)
 numbered_at b n [] i d numbered is begins below = absurd (none_there i d is)
 numbered_at b n (e ∷ decls) zero d numbered is begins below =
-    let same : e ≡ d = some_same e d is in
+    let same : e ≡ d = same_Some e d is in
     let at : number_of d.first ≡ b = ap (λ (x : Decl). number_of x.first) (sym same) ∙ numbered.0 in
     let small : n - b < size_of_dims e.dims = omega (arith, ap (λ (x : Decl). size_of_dims x.dims) same) in
     first_holds e decls (n - b) small ∙ ap (λ k. place_text e (n - k)) (sym at) ∙ ap (λ (x : Decl). place_text x (n - number_of d.first)) same
@@ -98,7 +78,7 @@ unnumbered b n (e ∷ decls) (suc zero) numbered from within last next =
     ∙ unnumbered (b + size_of_dims e.dims) n decls 0 numbered.1 passed (omega arith) (λ k d far is. absurd (omega arith)) next
 unnumbered b n (e ∷ decls) (suc (suc k)) numbered from within last next =
     let there : k < length decls = omega arith in
-    let found = item_at decls k there in
+    let found = some_there decls k there in
     let behind : b + size_of_dims e.dims ≤ number_of found.0.first = begins_behind (b + size_of_dims e.dims) decls k found.0 numbered.1 found.1 in
     let passed : b + size_of_dims e.dims ≤ n = omega (arith, behind, last (suc k) found.0 refl found.1) in
     first_passed e decls (n - b) (omega arith) ∙ ap (numbered_text decls) (minus_both n b (size_of_dims e.dims))
@@ -108,18 +88,18 @@ unnumbered b n (e ∷ decls) (suc (suc k)) numbered from within last next =
 pub size_within : (decls : List Decl) (i : ℕ) (d : Decl) → slice_get decls i ≡ Some d → size_of_dims d.dims ≤ variable_count decls
 size_within [] i d is = absurd (none_there i d is)
 size_within (e ∷ decls) zero d is =
-    omega (arith, ap (λ (x : Decl). size_of_dims x.dims) (some_same e d is), length-append (replicate (size_of_dims e.dims) e) (variables_of decls), length-replicate (size_of_dims e.dims) e)
+    omega (arith, ap (λ (x : Decl). size_of_dims x.dims) (same_Some e d is), length-append (replicate (size_of_dims e.dims) e) (variables_of decls), length-replicate (size_of_dims e.dims) e)
 size_within (e ∷ decls) (suc i) d is =
     omega (arith, size_within decls i d is, length-append (replicate (size_of_dims e.dims) e) (variables_of decls))
 
 -- the last declaration that begins at a number or before it
 pub last_begun : (found decls : List Decl) → found ≡ decls → (count : ℕ) (d : Decl) → (count ≡ 0 → ⊥) → count ≤ length found → d ≡ get_or found (count - 1) d → slice_get decls (count - 1) ≡ Some d
 last_begun found decls e count d some within is =
-    ap (λ ds. slice_get ds (count - 1)) (sym e) ∙ item_is found (count - 1) d (omega arith) is
+    ap (λ ds. slice_get ds (count - 1)) (sym e) ∙ slice_get_read found (length found) (count - 1) d refl (omega arith) is
 
 pub begins_before : (found : List Decl) (count n : ℕ) (d : Decl) → (count ≡ 0 → ⊥) → count ≤ length found → d ≡ get_or found (count - 1) d
     → ((k : ℕ) (e : Decl) → suc k ≡ count → slice_get found k ≡ Some e → number_of e.first ≤ n) → number_of d.first ≤ n
-begins_before found count n d some within is last = last (count - 1) d (omega arith) (item_is found (count - 1) d (omega arith) is)
+begins_before found count n d some within is last = last (count - 1) d (omega arith) (slice_get_read found (length found) (count - 1) d refl (omega arith) is)
 
 -- where the last one is passed, or there is none, nothing has the number
 pub none_has : (found decls : List Decl) (count n : ℕ) → found ≡ decls → AreNumberedFrom 0 decls → count ≤ length found
@@ -137,8 +117,3 @@ passed_there found count n d some within is passed k e at there =
     let here : k ≡ count - 1 = omega arith in
     let same : d ≡ e = item_same found (count - 1) d e (omega arith) is (ap (slice_get found) (sym here) ∙ there) in
     omega (arith, passed, ap (λ (x : Decl). number_of x.first + size_of_dims x.dims) same)
-
-pub nothing_past : {X : Type 0} (xs : List X) (i : ℕ) → length xs ≤ i → slice_get xs i ≡ None
-nothing_past [] i past = refl
-nothing_past (x ∷ xs) zero past = absurd (omega arith)
-nothing_past (x ∷ xs) (suc i) past = nothing_past xs i (omega arith)

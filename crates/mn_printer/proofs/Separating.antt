@@ -1,5 +1,5 @@
 -- Texts with a separator between each two, from the first on.
-use Rattle.std.proofs.Common.{◌≡◌, ℕ, ◌-◌, ◌<◌, ◌≤◌, List, [], ◌∷◌, ◌++◌, length, map, take, drop, get_or, refl, ap, sym, ◌∙◌, append-nil, ◌+◌, arith, Result, Ok, Err, OnOk}
+use Rattle.std.proofs.Common.{◌≡◌, ℕ, ◌-◌, ◌<◌, ◌≤◌, List, [], ◌∷◌, ◌++◌, length, map, take, drop, get_or, refl, ap, sym, ◌∙◌, append-nil, ◌+◌, arith, Result, Ok, Err, OnOk, take_all}
 use Rattle.std.proofs.lemmas.Grind.{common_steps, flat_map-append}
 use Rattle.std.proofs.lemmas.List.{take_more}
 use Rattle.std.specs.List.{flat_map}
@@ -47,7 +47,4 @@ item_more w v u text xs i x is within so_far one =
 -- all items of a list are written
 pub items_all : {X : Type 0} (w v : Written) (text : X → List ℕ) (xs ys : List X) (i : ℕ) → xs ≡ ys → length xs ≤ i → v ≡ onto w (flat_map text (take i xs)) → v ≡ onto w (flat_map text ys)
 items_all w v text xs ys i same all so_far =
-    so_far ∙ ap (λ zs. onto w (flat_map text zs)) (taken_all i xs all ∙ same)
-  where
-    taken_all : {X : Type 0} (i : ℕ) (xs : List X) → length xs ≤ i → take i xs ≡ xs
-    taken_all i xs all = grind (arith, common_steps)
+    so_far ∙ ap (λ zs. onto w (flat_map text zs)) (take_all i xs all ∙ same)

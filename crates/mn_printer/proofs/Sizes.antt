@@ -1,38 +1,21 @@
 -- Sizes of matrices, and the indices of their places.
 use Rattle.std.proofs.Common.{◌≡◌, ℕ, zero, suc, ◌+◌, ◌-◌, ◌*◌, ◌/◌, ◌%◌, ◌<◌, ◌≤◌, List, [], ◌∷◌, ◌++◌, length, map, take, drop, get_or, refl, sym, ap, ◌∙◌, subst, arith, codes, decimal}
-use Rattle.std.proofs.Math.Nat.{one-le-mul, mul_assoc, le-mul_of_pos_right, mul-div_cancel_left}
+use Rattle.std.proofs.Math.Nat.{mul-div_cancel_left}
 use Rattle.std.proofs.lemmas.Grind.{common_steps}
 use Rattle.std.specs.List.{AllByRecursion, flat_map}
 use Rattle.mn_model.specs.Problem.{size_of_dims}
+use Rattle.mn_model.proofs.Sizes.{suc_plus_one}
 use Rattle.mn_canonical.specs.Lists.{bracketed}
 use Rattle.mn_sections.specs.Matrices.{indices_of}
 use Rattle.mn_canonical.specs.Names.{subscript_text}
 use Rattle.mn_printer.specs.Pages.{Written, onto}
 use Rattle.mn_printer.proofs.Joining.{onto_joined}
 
-pub size_of_dims-positive : (dims : List ℕ) → AllByRecursion (λ dim. 1 ≤ dim) dims → 1 ≤ size_of_dims dims
-size_of_dims-positive [] shaped = omega arith
-size_of_dims-positive (dim ∷ dims) shaped = one-le-mul shaped.0 (size_of_dims-positive dims shaped.1)
-
-pub shaped-drop : (i : ℕ) (dims : List ℕ) → AllByRecursion (λ dim. 1 ≤ dim) dims → AllByRecursion (λ dim. 1 ≤ dim) (drop i dims)
-shaped-drop zero dims shaped = shaped
-shaped-drop (suc i) [] shaped = shaped
-shaped-drop (suc i) (dim ∷ dims) shaped = shaped-drop i dims shaped.1
-
-suc_plus_one : (i : ℕ) → suc i + 1 ≡ suc (i + 1)
-suc_plus_one i = omega arith
-
 -- one dimension more, of what is left
 pub dims-drop : (i : ℕ) (dims : List ℕ) → i < length dims → drop i dims ≡ get_or dims i 0 ∷ drop (i + 1) dims
 dims-drop i [] within = absurd (omega arith)
 dims-drop zero (dim ∷ dims) within = refl
 dims-drop (suc i) (dim ∷ dims) within = rw (suc_plus_one i) (dims-drop i dims (omega arith))
-
--- a size so far, with one dimension more, is at most the whole
-pub part_of_size : (size dim rest whole : ℕ) → size * (dim * rest) ≤ whole → 1 ≤ rest → size * dim ≤ whole
-part_of_size size dim rest whole all positive =
-    let here : size * dim ≤ size * dim * rest = le-mul_of_pos_right (size * dim) (omega arith) in
-    omega (arith, here, mul_assoc size dim rest)
 
 -- the indices of a place, with a comma before each
 abbrev pub further_text : List ℕ → ℕ → List ℕ
@@ -56,9 +39,6 @@ pub shaped_at : (dims : List ℕ) (i : ℕ) → AllByRecursion (λ dim. 1 ≤ di
 shaped_at [] i shaped within = absurd (omega arith)
 shaped_at (dim ∷ dims) zero shaped within = shaped.0
 shaped_at (dim ∷ dims) (suc i) shaped within = shaped_at dims i shaped.1 (omega arith)
-
-pub drop_end : (dims : List ℕ) (i : ℕ) → length dims ≤ i → drop i dims ≡ []
-drop_end dims i past = grind (arith, common_steps)
 
 -- what is behind the outermost dimension
 pub shaped_rest : (dims : List ℕ) → AllByRecursion (λ dim. 1 ≤ dim) dims → AllByRecursion (λ dim. 1 ≤ dim) (take (length dims - 1) (drop 1 dims))

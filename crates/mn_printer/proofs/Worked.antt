@@ -12,10 +12,10 @@ use Rattle.mn_model.specs.declared.constraint.Term.TheVariants.{Var, Const, Not}
 use Rattle.mn_model.specs.declared.declaration.Decl.{Decl}
 use Rattle.mn_model.specs.declared.search.Print.TheVariants.{Rows}
 use Rattle.mn_model.specs.declared.variable.Kind.TheVariants.{Binary, Sparse, Discrete}
+use Rattle.mn_model.proofs.Children.{implied}
 use Rattle.mn_canonical.specs.Canonical.{canonical_text}
 use Rattle.mn_canonical.specs.Constraints.{constraint_text, form_text}
 use Rattle.mn_canonical.specs.Lists.{bracketed, braced}
-use Rattle.mn_printer.proofs.Made.{implied}
 
 abbrev boolean : List ℕ → ℕ → Decl
 boolean name first = record { name = name; dims = []; kind = Binary; domain = pos 0 ∷ pos 1 ∷ []; first = variable first }

@@ -3,17 +3,20 @@ use Rattle.std.proofs.Common.{◌≡◌, ℤ, pos, ◌-ℤ◌, inl, inr, Bool, t
 use Rattle.std.proofs.lemmas.Int.{ints}
 use Rattle.std.specs.Ordering.{int_eq}
 use Rattle.std.specs.Prelude.{slice_set}
+use Rattle.mn_meaning.proofs.Places.{int_eq-other}
 use Rattle.mn_model.specs.Domain.{Has, IsValue}
 use Rattle.mn_model.specs.Variable.{number_of}
 use Rattle.mn_model.specs.declared.constraint.Term.TheVariants.{Var, Const, Not}
 use Rattle.mn_model.specs.declared.variable.VarId.{VarId}
+use Rattle.mn_model.proofs.Filtered.{filter_has, has_filter}
+use Rattle.mn_model.proofs.Ordered.{le_true}
 use Rattle.mn_boxes.specs.Boxes.{set_of}
 use Rattle.mn_boxes.specs.Sets.{MayGo, Variable}
 use Rattle.mn_boxes.specs.declared.change.Moved.{Moved}
 use Rattle.mn_domains.specs.Changes.{Changed, is_not}
 use Rattle.mn_domains.specs.Sets.{Sets}
 use Rattle.mn_domains.specs.declared.doms.Emptied.{Emptied}
-use Rattle.mn_domains.proofs.Filtered.{filter_alike, filter_has, has_filter, eq_so, eq_true, le_true}
+use Rattle.mn_domains.proofs.Filtered.{filter_alike, eq_so, eq_true}
 use Rattle.mn_prop.specs.Contexts.{ChangedAt, Context, IsAnswer, IsAnswerIf, IsTurned}
 use Rattle.mn_prop.specs.declared.context.Fail.{Fail}
 use Rattle.mn_prop.proofs.PlaceLemmas.{back}
@@ -90,14 +93,7 @@ turned_ge a turned b (inr great) value = grind (arith, ints)
 
 pub turned_eq : (a turned b : ℤ) → IsTurned a turned → IsValue b → int_eq b turned ≡ int_eq (pos 1 -ℤ b) a
 turned_eq a turned b (inl is) value = ap (λ x. int_eq b x) is ∙ eq_back a b
-turned_eq a turned b (inr great) value = differ b turned (λ e. omega (arith, ints, e)) ∙ sym (differ (pos 1 -ℤ b) a (λ e. omega (arith, ints, e)))
-  where
-    differ : (x y : ℤ) → (x ≡ y → ⊥) → int_eq x y ≡ false
-    differ x y not = by (int_eq x y) refl
-      where
-        by : (t : Bool) → int_eq x y ≡ t → t ≡ false
-        by true e = absurd (not (eq_so x y e))
-        by false e = refl
+turned_eq a turned b (inr great) value = int_eq-other b turned (λ e. omega (arith, ints, e)) ∙ sym (int_eq-other (pos 1 -ℤ b) a (λ e. omega (arith, ints, e)))
 
 pub turned_not : (a turned b : ℤ) → IsTurned a turned → IsValue b → is_not turned b ≡ is_not a (pos 1 -ℤ b)
 turned_not a turned b is value = ap not (turned_eq a turned b is value)

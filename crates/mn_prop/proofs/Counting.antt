@@ -4,6 +4,7 @@ use Rattle.mn_model.specs.Domain.{Ascends, Has}
 use Rattle.mn_model.specs.Variable.{number_of}
 use Rattle.mn_model.specs.declared.constraint.Term.{Term}
 use Rattle.mn_model.specs.declared.constraint.Term.TheVariants.{Var, Const, Not}
+use Rattle.mn_model.proofs.Filtered.{filter_ascends, has_filter}
 use Rattle.mn_boxes.specs.Boxes.{IsBox, count_of, set_of}
 use Rattle.mn_boxes.specs.Places.{PlaceHas}
 use Rattle.mn_boxes.proofs.Members.{parted}
@@ -11,7 +12,7 @@ use Rattle.mn_boxes.proofs.Quiet.{ascends_at}
 use Rattle.mn_boxes.proofs.Totals.{counts_inside}
 use Rattle.mn_domains.specs.Changes.{is_not, kept}
 use Rattle.mn_domains.specs.Sets.{Sets}
-use Rattle.mn_domains.proofs.Filtered.{Ascends-filter, has_filter, is_not_false, is_not_so}
+use Rattle.mn_domains.proofs.Filtered.{is_not_false, is_not_so}
 use Rattle.mn_domains.proofs.Put.{count_of-set}
 use Rattle.mn_prop.specs.Contexts.{ChangedAt, Context, IsNamed}
 use Rattle.mn_prop.specs.Passes.{OnlyTakes}
@@ -20,7 +21,7 @@ use Rattle.mn_prop.proofs.PlaceLemmas.{back}
 -- a test that a member doesn't pass leaves fewer
 fewer_left : (p : ℤ → Bool) (xs : List ℤ) (b : ℤ) → Ascends xs → Has xs b → p b ≡ false → length (filter p xs) < length xs
 fewer_left p xs b up has out =
-    let few = parted (filter p xs) xs (Ascends-filter p xs up) up (λ a there. (has_filter p xs a there).has) in
+    let few = parted (filter p xs) xs (filter_ascends p xs up) up (λ a there. (has_filter p xs a there).has) in
     let le = few.no_more in
     let differ : length (filter p xs) ≡ length xs → ⊥ = λ same. true≢false (sym (has_filter p xs b (subst (λ ys. Has ys b) (sym (few.same same)) has)).passes ∙ out) in
     omega (arith, le, differ)

@@ -1,16 +1,17 @@
 -- Steps from changes, and steps one behind another.
 use Rattle.std.proofs.Common.{◌≡◌, ℕ, zero, suc, ◌<◌, ℤ, pos, ◌-ℤ◌, Bool, true, inl, List, [], ◌∷◌, length, filter, slice_set, Result, Ok, Err, IsErr, refl, sym, subst, ap, ◌∙◌, arith, true≢false}
+use Rattle.mn_closure.proofs.Wider.{wider_place}
 use Rattle.mn_model.specs.Domain.{Has}
 use Rattle.mn_model.specs.Variable.{number_of}
 use Rattle.mn_model.specs.declared.constraint.Term.{Term}
 use Rattle.mn_model.specs.declared.constraint.Term.TheVariants.{Var, Const, Not}
+use Rattle.mn_model.proofs.Filtered.{filter_has, has_filter}
 use Rattle.mn_boxes.specs.Boxes.{Inside, IsBox, set_of}
 use Rattle.mn_boxes.specs.Places.{PlaceHas}
 use Rattle.mn_boxes.specs.Sets.{Variable}
 use Rattle.mn_boxes.proofs.Totals.{counts_inside}
 use Rattle.mn_domains.specs.Changes.{kept}
 use Rattle.mn_domains.specs.Sets.{Sets}
-use Rattle.mn_domains.proofs.Filtered.{filter_has, has_filter}
 use Rattle.mn_prop.specs.Contexts.{ChangedAt, Context, IsNamed, kept_at}
 use Rattle.mn_prop.specs.Passes.{AllPass, IsStep, NoneHas, OnlyTakes}
 use Rattle.mn_prop.specs.declared.context.Fail.{Fail}
@@ -75,12 +76,6 @@ inside_itself box = record { within = λ v a has. has }
 pub inside_through : {inner box outer : List (List ℤ)} → Inside inner box → Inside box outer → Inside inner outer
 inside_through one two = record { within = λ v a has. two.within v a (one.within v a has) }
 
--- what a place has in a box it has in the sets around it
-pub place_inside : (inner outer : List (List ℤ)) → Inside inner outer → (t : Term) (a : ℤ) → PlaceHas inner t a → PlaceHas outer t a
-place_inside inner outer i (Var v) a has = i.within (number_of v) a has
-place_inside inner outer i (Const k) a has = has
-place_inside inner outer i (Not v) a has = i.within (number_of v) (pos 1 -ℤ a) has
-
 -- ---- changes
 
 -- the sets that pass a test at a place are inside the old ones, and around every box that passes it there
@@ -121,7 +116,7 @@ change_step p t old new (Ok done) is named changed = record {
 change_step p t old new (Err fail) is named changed = record {
   takes = subst (λ (s : Context). OnlyTakes old.doms s.doms) (sym changed.1) (record { vars = refl; saved = refl; inside = inside_itself old.doms.sets });
   sound = tt;
-  fail = λ box lawful i pass. (let some = some_value old.doms.vars box old.doms.sets t lawful is named in true≢false (sym (pass some.0 some.1) ∙ changed.0 some.0 (place_inside box old.doms.sets i t some.0 some.1)));
+  fail = λ box lawful i pass. (let some = some_value old.doms.vars box old.doms.sets t lawful is named in true≢false (sym (pass some.0 some.1) ∙ changed.0 some.0 (wider_place box old.doms.sets i t some.0 some.1)));
   still = tt;
 }
 

@@ -21,7 +21,7 @@ use Rattle.mn_meaning.specs.Meaning.{Meets}
 use Rattle.mn_closure.specs.Closed.{Asked, LeafClosed}
 use Rattle.mn_closure.specs.Levels.{level}
 use Rattle.mn_closure.specs.Supports.{StandsAt, Supported}
-use Rattle.mn_closure.proofs.Wider.{wider_supported}
+use Rattle.mn_closure.proofs.Wider.{wider_supported, wider_place}
 use Rattle.mn_domains.specs.Changes.{is_not}
 use Rattle.mn_domains.specs.Sets.{Sets}
 use Rattle.mn_domains.proofs.Filtered.{is_not_so, is_not_true}
@@ -31,7 +31,7 @@ use Rattle.mn_prop.specs.Sweeps.{AllSupported, AsksEach, AsksEnds, EndsAlone, Gr
 use Rattle.mn_prop.specs.declared.context.Fail.{Fail}
 use Rattle.mn_prop.proofs.Going.{Going, arrives, begins, goes_on, goes_wrong, same_before}
 use Rattle.mn_prop.proofs.PlaceLemmas.{back}
-use Rattle.mn_prop.proofs.Stepping.{as_step, change_step, failing, no_step, none_taken, place_inside, then_step}
+use Rattle.mn_prop.proofs.Stepping.{as_step, change_step, failing, no_step, none_taken, then_step}
 use Rattle.mn_prop.proofs.Trying.{at_most_or}
 
 -- ---- ends of places
@@ -127,7 +127,7 @@ module _ (lists : List Tuples) (c : Con) (i : ℕ) (t : Term) where
   -- ---- ends
 
   least_there : (a : ℤ) (box sets : List (List ℤ)) → Inside box sets → IsLeastAt sets t a → LeastSupported lists c i t box → PlaceHas box t a → Supported lists c i a box
-  least_there a box sets inside least supported has = supported a (record { there = has; least = λ b at. least.least b (place_inside box sets inside t b at) })
+  least_there a box sets inside least supported has = supported a (record { there = has; least = λ b at. least.least b (wider_place box sets inside t b at) })
 
   pub raised : (a : ℤ) (old mid new : Context) (done : Unit {0}) → Going (LeastSupported lists c i t) old.doms mid.doms → IsBox mid.doms.vars mid.doms.sets → IsNamed mid.doms.sets t → IsLeastAt mid.doms.sets t a → (Supported lists c i a mid.doms.sets → ⊥)
       → ChangedAt (is_not a) t mid new (Ok done) → Going (LeastSupported lists c i t) old.doms new.doms
@@ -148,7 +148,7 @@ module _ (lists : List Tuples) (c : Con) (i : ℕ) (t : Term) where
       here b first = let same : a ≡ b = (let le = first.least a least.there in let ge = least.least b first.there in omega (arith, ints, le, ge)) in subst (λ x. Supported lists c i x now.sets) same supported
 
   greatest_there : (a : ℤ) (box sets : List (List ℤ)) → Inside box sets → IsGreatestAt sets t a → GreatestSupported lists c i t box → PlaceHas box t a → Supported lists c i a box
-  greatest_there a box sets inside great supported has = supported a (record { there = has; greatest = λ b at. great.greatest b (place_inside box sets inside t b at) })
+  greatest_there a box sets inside great supported has = supported a (record { there = has; greatest = λ b at. great.greatest b (wider_place box sets inside t b at) })
 
   pub lowered : (a : ℤ) (old mid new : Context) (done : Unit {0}) → Going (GreatestSupported lists c i t) old.doms mid.doms → IsBox mid.doms.vars mid.doms.sets → IsNamed mid.doms.sets t → IsGreatestAt mid.doms.sets t a → (Supported lists c i a mid.doms.sets → ⊥)
       → ChangedAt (is_not a) t mid new (Ok done) → Going (GreatestSupported lists c i t) old.doms new.doms

@@ -7,11 +7,12 @@ use Rattle.mn_model.specs.Domain.{Ascends, Has}
 use Rattle.mn_model.specs.Variable.{number_of}
 use Rattle.mn_model.specs.declared.constraint.Term.TheVariants.{Var, Not}
 use Rattle.mn_model.specs.declared.variable.VarId.{VarId}
+use Rattle.mn_model.proofs.Filtered.{Passes, filter_ascends, filter_has, has_filter}
+use Rattle.mn_model.proofs.Ordered.{lt_so, lt_true}
 use Rattle.mn_boxes.specs.Boxes.{set_of}
 use Rattle.mn_boxes.specs.Places.{PlaceHas}
 use Rattle.mn_boxes.specs.Sets.{least}
 use Rattle.mn_boxes.proofs.Members.{stands_first}
-use Rattle.mn_domains.proofs.Filtered.{Ascends-filter, Passes, filter_has, has_filter, lt_so, lt_true}
 use Rattle.mn_prop.specs.Contexts.{IsGreatestAt, IsNextAt}
 
 -- one number is at most another, or it is greater
@@ -64,7 +65,7 @@ next_tried sets v a b hi tried great absent = record {
 
 -- the least of the values that are greater than a is the next one
 pub next_of : (sets : List (List ℤ)) (v : VarId) (a : ℤ) (next : Option ℤ) → Ascends (set_of sets (number_of v)) → next ≡ least (filter (λ x. int_lt a x) (set_of sets (number_of v))) → IsNextAt sets (Var v) a next
-next_of sets v a next up is = by next (filter (λ x. int_lt a x) xs) (Ascends-filter (λ x. int_lt a x) xs up) is (λ b has. has_filter (λ x. int_lt a x) xs b has) (λ b has lt. filter_has (λ x. int_lt a x) xs b has lt)
+next_of sets v a next up is = by next (filter (λ x. int_lt a x) xs) (filter_ascends (λ x. int_lt a x) xs up) is (λ b has. has_filter (λ x. int_lt a x) xs b has) (λ b has lt. filter_has (λ x. int_lt a x) xs b has lt)
   where
     xs : List ℤ
     xs = set_of sets (number_of v)

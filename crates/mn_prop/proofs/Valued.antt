@@ -1,5 +1,5 @@
 -- The values of variables and places are near the values of a model.
-use Rattle.std.proofs.Common.{ℕ, zero, suc, ℤ, pos, ◌-ℤ◌, FitsSigned, w64, inl, inr, List, [], ◌∷◌, map, subst, arith}
+use Rattle.std.proofs.Common.{ℕ, zero, suc, ℤ, pos, ◌-ℤ◌, FitsSigned, w64, List, [], ◌∷◌, map, arith}
 use Rattle.std.proofs.lemmas.Int.{ints}
 use Rattle.std.specs.List.{AllByRecursion}
 use Rattle.mn_model.specs.Domain.{Has, IsValue}
@@ -9,6 +9,7 @@ use Rattle.mn_boxes.specs.Boxes.{IsBox, declared_variables, set_of}
 use Rattle.mn_boxes.specs.Sets.{Variable, variable_of}
 use Rattle.mn_boxes.proofs.Declared.{lawful_variables}
 use Rattle.mn_model.specs.Problem.{variables_of}
+use Rattle.mn_model.proofs.Ordered.{each_valued}
 use Rattle.mn_prop.specs.Contexts.{AreValued}
 
 valued_of : (ds : List Decl) → AllByRecursion IsLawfulDecl ds → AreValued (map variable_of ds)
@@ -18,13 +19,6 @@ valued_of (d ∷ ds) lawful = (lawful.0.domain.valued, valued_of ds lawful.1)
 -- what lawful declarations declare
 pub declared_valued : (decls : List Decl) → AllByRecursion IsLawfulDecl decls → AreValued (declared_variables decls)
 declared_valued decls lawful = valued_of (variables_of decls) (lawful_variables decls lawful)
-
-each_valued : (xs : List ℤ) (a : ℤ) → AllByRecursion IsValue xs → Has xs a → IsValue a
-each_valued [] a all has = absurd has
-each_valued (x ∷ xs) a all has = elim has [
-  | inl is ↦ subst IsValue is all.0
-  | inr later ↦ each_valued xs a all.1 later
-]
 
 -- a value that is there is a value of a model
 pub valued_at : (vars : List Variable) (box : List (List ℤ)) (v : ℕ) (a : ℤ) → IsBox vars box → AreValued vars → Has (set_of box v) a → IsValue a

@@ -1,7 +1,7 @@
 -- What the code of whole texts does, step by step, is what the reader answers.
 use Rattle.mn_asking.specs.Asking.{ReadsAsking}
 use Rattle.std.specs.Prelude.{IfOk, IfErr}
-use Rattle.std.proofs.Common.{◌≡◌, suc, ◌-◌, ◌<◌, ◌≤◌, Bool, true, false, List, [], ◌∷◌, length, drop, codes, Some, None, Ok, Err, Result, refl, sym, ap, ◌∙◌, subst, arith}
+use Rattle.std.proofs.Common.{◌≡◌, suc, ◌<◌, ◌≤◌, Bool, true, false, List, [], ◌∷◌, length, drop, codes, Some, None, Ok, Err, Result, refl, sym, ap, ◌∙◌, subst, arith}
 use Rattle.mn_lexer.specs.Terminals.{Terminal}
 use Rattle.mn_grammar.specs.Reading.{Answer, Reader, goes_on, go_on, turned, then_read, ret, refused, one_of, word_at, loop}
 use Rattle.mn_grammar.specs.Gives.{Gives, Stops}

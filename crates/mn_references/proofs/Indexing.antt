@@ -7,6 +7,7 @@ use Rattle.mn_model.specs.Problem.{size_of_dims}
 use Rattle.mn_model.specs.Variable.{number_of}
 use Rattle.mn_model.specs.declared.variable.VarId.{VarId}
 use Rattle.mn_model.proofs.Sizes.{size_of_dims-positive, part_of_size, one_index_more}
+use Rattle.mn_model.proofs.Lists.{all_append}
 use Rattle.mn_references.specs.References.{is_single, Sub, only, each, as_index, places_from, places_below}
 use Rattle.mn_references.specs.Lookups.{is_fine}
 
@@ -25,10 +26,6 @@ fits_first (dim ∷ dims) [] size some shaped few all = tt
 fits_first (dim ∷ dims) (place ∷ places) size some shaped few all =
     let here = part_of_size (place + 1) dim (size_of_dims dims) size all.0 (size_of_dims-positive dims shaped.1) in
     (omega (arith, here), fits_first (dim ∷ dims) places size some shaped few all.1)
-
-all_append : {X : Type 0} (P : X → Type 0) (xs ys : List X) → AllByRecursion P xs → AllByRecursion P ys → AllByRecursion P (xs ++ ys)
-all_append P [] ys all more = more
-all_append P (x ∷ xs) ys all more = (all.0, all_append P xs ys all.1 more)
 
 row_within : (place dim rest size a n : ℕ) → (place + 1) * (dim * rest) ≤ size → a + n ≤ dim → AllByRecursion (λ p. (p + 1) * rest ≤ size) (map (λ i. place * dim + i) (range_with_len a n))
 row_within place dim rest size a zero all fits = tt

@@ -2,22 +2,25 @@
 use Rattle.std.proofs.Common.{◌≡◌, ℕ, suc, ◌+◌, ◌*◌, ◌<◌, ◌≤◌, Bool, true, false, not, ◌&&◌, List, [], ◌∷◌, ◌++◌, length, map, slice_get, unwrap_or, Option, Some, None, refl, ap, ◌∙◌, subst, arith, bytes_eq, cond}
 use Rattle.std.specs.List.{AllByRecursion, range_with_len}
 use Rattle.std.proofs.lemmas.List.FromFn.{length-range_with_len}
+use Rattle.std.proofs.lemmas.List.{length-map}
 use Rattle.mn_model.specs.Lawful.{IsLawful, IsLawfulAlias}
 use Rattle.mn_model.specs.Problem.{Problem, size_of_dims, called, declared_as, aliased_as, variable_count, domains_of}
 use Rattle.mn_model.specs.Variable.{number_of, variable}
 use Rattle.mn_model.specs.declared.declaration.Alias.{Alias}
 use Rattle.mn_model.specs.declared.declaration.Decl.{Decl}
-use Rattle.mn_model.proofs.Kept.{AllByRecursion-at, numbered_within}
+use Rattle.mn_model.proofs.Kept.{numbered_within}
+use Rattle.mn_model.proofs.Lists.{all_at}
 use Rattle.mn_grammar.specs.Places.{on, behind}
 use Rattle.mn_grammar.specs.Lists.{Items, final, also, breaks_items, value_items}
 use Rattle.mn_grammar.specs.declared.Kind.TheVariants.{Shape}
+use Rattle.mn_grammar.proofs.Steps.{on_kept}
 use Rattle.mn_references.specs.Conditions.{as_kind}
 use Rattle.mn_references.specs.References.{Lead, lead_by, lead_of, lead_or_none, all_of, is_single, Sub, only, each, is_outside, is_only, places_below, Within, at_start, entered, Ref, Aim, Found, at_name, at_open, at_index, at_comma, at_close, sub_judge, found_at, breaks_subs, value_subs, breaks_ref, value_ref}
 use Rattle.mn_references.specs.Lookups.{is_fine}
 use Rattle.mn_references.specs.declared.want.Unfit.{Unfit}
 use Rattle.mn_references.proofs.Indexing.{stays_within, places_fit, vars_fit}
 use Rattle.mn_references.proofs.LookingUp.{listed_known}
-use Rattle.mn_references.proofs.Unbroken.{on_kept, token_kept, when_kept, as_kind_kept, range_below}
+use Rattle.mn_references.proofs.Unbroken.{token_kept, when_kept, as_kind_kept, range_below}
 
 -- 1. What a name leads to is declared
 abbrev pub IsLed : Problem → Lead → Type 0
@@ -39,7 +42,7 @@ led_by p lawful name (Some d) a e f l same =
     subst (IsLed p) is (λ place less. omega (arith, within, less))
 led_by p lawful name None (Some a) e f l same =
     let there = called_at (λ (a : Alias). a.name) p.aliases name a f in
-    let of_alias = AllByRecursion-at (IsLawfulAlias (domains_of p.decls)) p.aliases there.0 a lawful.aliases there.1 in
+    let of_alias = all_at (IsLawfulAlias (domains_of p.decls)) p.aliases there.0 a lawful.aliases there.1 in
     let is : ◌≡◌ {A = Lead} (record { dims = a.dims; at = λ place. unwrap_or (slice_get a.vars place) (variable 0) }) l = cc in
     subst (IsLed p) is (λ place less. listed_known p a.vars place of_alias.known (omega (arith, less, of_alias.filled)))
 led_by p lawful name None None e f l same = cc
@@ -71,10 +74,6 @@ one_more dim (only z) false places one e = cc
 one_more dim each true places one e = cc
 one_more dim each false places one e = cc
 
-pub map_length : {X Y : Type 0} (f : X → Y) (xs : List X) → length (map f xs) ≡ length xs
-map_length f [] = refl
-map_length f (x ∷ xs) = ap suc (map_length f xs)
-
 module _ (p : Problem) (aim : Aim) (l : Lead) (led : IsLed p l) where
   abbrev IsInside : List ℕ → List ℕ → Type 0
   IsInside dims places = AllByRecursion (λ place. (place + 1) * size_of_dims dims ≤ size_of_dims l.dims) places
@@ -90,7 +89,7 @@ module _ (p : Problem) (aim : Aim) (l : Lead) (led : IsLed p l) where
         full = (entered w sub).full;
         ends = closed.1;
         known = vars_fit l.at (entered w sub).places (size_of_dims l.dims) (variable_count p.decls) led (places_fit dims (entered w sub).places (size_of_dims l.dims) closed.0 below);
-        one = λ e. map_length l.at (entered w sub).places ∙ one_more dim sub full places one e;
+        one = λ e. length-map (entered w sub).places l.at ∙ one_more dim sub full places one e;
       }
   indices_good (also sub subs) (dim ∷ dims) places full several inside one kept =
       let w : Within = record { dims = dim ∷ dims; places = places; full = full } in
@@ -111,7 +110,7 @@ module _ (p : Problem) (aim : Aim) (l : Lead) (led : IsLed p l) where
     full = true;
     ends = as_kind_kept (aim.ends true (all_of l)) kept;
     known = all_known;
-    one = λ e. map_length l.at (range_with_len 0 (size_of_dims l.dims)) ∙ length-range_with_len 0 (size_of_dims l.dims) ∙ single_size l.dims is;
+    one = λ e. length-map (range_with_len 0 (size_of_dims l.dims)) l.at ∙ length-range_with_len 0 (size_of_dims l.dims) ∙ single_size l.dims is;
   }
   bare_good false is kept = record { full = false; ends = refl; known = all_known; one = λ e. cc }
 

@@ -1,9 +1,10 @@
 -- Terms and vectors that break nothing are lawful in the model.
-use Rattle.std.proofs.Common.{◌≡◌, ◌⊎◌, ℤ, suc, pos, ◌+◌, ◌<◌, ◌≤◌, leb, ltb, Bool, true, false, not, ◌&&◌, ◌||◌, List, [], ◌∷◌, ◌++◌, length, map, take, slice_get, Option, Some, None, refl, sym, ap, ◌∙◌, subst, arith, cond, inl, inr, length-append}
+use Rattle.std.proofs.Common.{◌≡◌, ◌⊎◌, ℤ, pos, ◌+◌, ◌<◌, ◌≤◌, leb, ltb, Bool, true, false, not, ◌&&◌, ◌||◌, List, [], ◌∷◌, ◌++◌, length, map, take, slice_get, Option, Some, None, refl, sym, ap, ◌∙◌, subst, arith, cond, inl, inr, length-append}
 use Rattle.std.specs.List.{AllByRecursion}
 use Rattle.std.specs.Ordering.{int_eq}
-use Rattle.std.proofs.lemmas.Bool.{or_parts, or_cases}
+use Rattle.std.proofs.lemmas.Bool.{or_parts, or_cases, not-false}
 use Rattle.std.proofs.lemmas.Bool.Decides.{Decides-int_eq}
+use Rattle.std.proofs.lemmas.List.{length-map, length_push}
 use Rattle.mn_lexer.specs.Terminals.{Terminal, word, number, head, mark}
 use Rattle.mn_lexer.specs.declared.marks.Mark.TheVariants.{CloseSquare, Comma}
 use Rattle.mn_model.specs.Domain.{IsValue}
@@ -15,16 +16,18 @@ use Rattle.mn_model.specs.declared.constraint.Term.TheVariants.{Var, Const, Not}
 use Rattle.mn_model.specs.declared.limits.TheConstants.{PLACES}
 use Rattle.mn_model.specs.declared.variable.VarId.{VarId}
 use Rattle.mn_model.proofs.Variables.{length-domains_of}
+use Rattle.mn_model.proofs.Lists.{all_append, all_back, all_front, all_map, all_so}
 use Rattle.mn_grammar.specs.Places.{when, on, behind}
 use Rattle.mn_grammar.specs.Lists.{Items, final, also, spell_items, breaks_items, value_items}
 use Rattle.mn_grammar.specs.declared.Kind.TheVariants.{Shape, Limit}
 use Rattle.mn_grammar.specs.declared.Limit.TheVariants.{Vector as OfVector}
+use Rattle.mn_grammar.proofs.Steps.{on_kept}
 use Rattle.mn_references.specs.Conditions.{lesser, as_kind, unfit}
 use Rattle.mn_references.specs.References.{lead_of, lead_or_none, at_name, breaks_subs, breaks_ref, Found, value_ref, are_zero_one, are_bits, one_place}
 use Rattle.mn_references.specs.Entries.{Entry, of_ref, of_number, of_not, spell_entry, Place, Placed, denied, breaks_entry, value_entry, at_number, a_term, in_list, at_more, at_enough, list_judge, listed_terms, spell_list, breaks_list, value_list, Vector, whole, listed, spell_vector, a_vector, breaks_vector, value_vector}
 use Rattle.mn_references.specs.declared.want.Bounds.{Bounds}
 use Rattle.mn_references.specs.declared.want.Unfit.TheVariants.{Form, Length}
-use Rattle.mn_references.proofs.Unbroken.{on_kept, token_kept, part_kept, behind_kept, when_kept, as_kind_kept, unfit_kept, lesser_kept, not_false, not_less, not_at_most, all_append, all_front, all_back, all_map, all_so, all_pass}
+use Rattle.mn_references.proofs.Unbroken.{token_kept, part_kept, behind_kept, when_kept, as_kind_kept, unfit_kept, lesser_kept, not_less, not_at_most, all_pass}
 use Rattle.mn_references.proofs.LawfulReferences.{IsGood, name_good, ref_good}
 
 -- a token of the lexer: its number is a value
@@ -82,9 +85,9 @@ module _ (p : Problem) where
   not_comes : (want : Place) (f : Found) → IsGood p (one_place p true) f → want.first ≡ None → f.behind ≡ None → Comes want (denied f).terms
   not_comes want f good first ends =
       let kept = or_parts (not good.full) (not (are_bits p f.vars)) (unfit_kept (not good.full || not (are_bits p f.vars)) Form (good.ends ∙ ends)) in
-      let one = one_var f.vars (good.one (not_false good.full kept.0)) in
+      let one = one_var f.vars (good.one (not-false good.full kept.0)) in
       let known = subst (AllByRecursion (λ v. number_of v < variable_count p.decls)) one.1 good.known in
-      let bits = all_pass (λ v. AreBits (slice_get domains (number_of v))) (λ v. are_zero_one (slice_get domains (number_of v))) (λ v f. bits_of _ f) f.vars (not_false (are_bits p f.vars) kept.1) in
+      let bits = all_pass (λ v. AreBits (slice_get domains (number_of v))) (λ v. are_zero_one (slice_get domains (number_of v))) (λ v f. bits_of _ f) f.vars (not-false (are_bits p f.vars) kept.1) in
       let bit = subst (AllByRecursion (λ v. AreBits (slice_get domains (number_of v)))) one.1 bits in
       subst (λ vars. Comes want (map Not (take 1 vars))) (sym one.1) (denies one.0 first (known_in one.0 known.0) bit.0)
 
@@ -109,17 +112,17 @@ module _ (p : Problem) where
     pub bit : bits ≡ true → IsBitTerm term
 
   wanted_bits : (b c : Bool) → (b && not c) ≡ false → b ≡ true → c ≡ true
-  wanted_bits true c e f = not_false c e
+  wanted_bits true c e f = not-false c e
   wanted_bits false c e f = cc
 
   wanted_number : (b : Bool) (z : ℤ) → at_number b z ≡ None → b ≡ true → (z ≡ pos 0) ⊎ (z ≡ pos 1)
-  wanted_number true z e f = zero_one z (not_false (int_eq z (pos 0) || int_eq z (pos 1)) (when_kept (not (int_eq z (pos 0) || int_eq z (pos 1))) Shape e))
+  wanted_number true z e f = zero_one z (not-false (int_eq z (pos 0) || int_eq z (pos 1)) (when_kept (not (int_eq z (pos 0) || int_eq z (pos 1))) Shape e))
   wanted_number false z e f = cc
 
   pub term_one : (bits : Bool) (terms : List Term) → Comes (a_term p bits) terms → IsOne bits terms
   term_one bits _ (names full vars ends known one) =
       let kept = or_parts (not full) (bits && not (are_bits p vars)) (unfit_kept (not full || (bits && not (are_bits p vars))) Form ends) in
-      let only = one_var vars (one (not_false full kept.0)) in
+      let only = one_var vars (one (not-false full kept.0)) in
       let lawful = subst (λ vars. AllByRecursion IsTerm (map Var vars)) only.1 (vars_lawful vars known) in
       record {
         term = Var only.0;
@@ -149,20 +152,13 @@ module _ (p : Problem) where
   end_kept true other e = cc
   end_kept false other e = (refl, unfit_kept other Form e)
 
-  map_length : {X Y : Type 0} (f : X → Y) (xs : List X) → length (map f xs) ≡ length xs
-  map_length f [] = refl
-  map_length f (x ∷ xs) = ap suc (map_length f xs)
-
-  one_longer : {X : Type 0} (xs : List X) (x : X) → length (xs ++ x ∷ []) ≡ length xs + 1
-  one_longer xs x = length-append xs (x ∷ [])
-
   pub front_more : (b : Bounds) (before more : List Term) → IsFront b before → length before < PLACES → Comes (in_list p b before) more → IsFront b (before ++ more)
   front_more b before _ front room (names full vars ends known one) =
       let kept = end_kept (ltb PLACES (length before + length vars)) (ltb b.most (length before + length vars) || (b.bits && not (are_bits p vars))) ends in
       let others = or_parts (ltb b.most (length before + length vars)) (b.bits && not (are_bits p vars)) kept.1 in
       let short = not_less PLACES (length before + length vars) kept.0 in
       let most = not_less b.most (length before + length vars) others.0 in
-      let size : length (before ++ map Var vars) ≡ length before + length vars = length-append before (map Var vars) ∙ ap (λ n. length before + n) (map_length Var vars) in
+      let size : length (before ++ map Var vars) ≡ length before + length vars = length-append before (map Var vars) ∙ ap (λ n. length before + n) (length-map vars Var) in
       record {
         lawful = all_append IsTerm before (map Var vars) front.lawful (vars_lawful vars known);
         short = omega (arith, short, size);
@@ -171,7 +167,7 @@ module _ (p : Problem) where
       }
   front_more b before _ front room (counts z first kept value) =
       let most = not_at_most b.most (length before) (when_kept (leb b.most (length before)) Shape first) in
-      let size = one_longer before (Const z) in
+      let size = length_push before (Const z) in
       record {
         lawful = all_append IsTerm before (Const z ∷ []) front.lawful (value, tt);
         short = omega (arith, room, size);
@@ -180,7 +176,7 @@ module _ (p : Problem) where
       }
   front_more b before _ front room (denies v first known bit) =
       let most = not_at_most b.most (length before) (when_kept (leb b.most (length before)) Shape first) in
-      let size = one_longer before (Not v) in
+      let size = length_push before (Not v) in
       record {
         lawful = all_append IsTerm before (Not v ∷ []) front.lawful ((known, bit), tt);
         short = omega (arith, room, size);
@@ -236,7 +232,7 @@ module _ (p : Problem) where
       let short = not_less PLACES (length vars) all.0 in
       let least = not_less (length vars) b.least enough.1 in
       let most = not_less b.most (length vars) few.1 in
-      let size = map_length Var vars in
+      let size = length-map vars Var in
       record {
         lawful = vars_lawful vars good.known;
         short = omega (arith, short, size);

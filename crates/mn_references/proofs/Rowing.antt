@@ -3,13 +3,14 @@ use Rattle.std.proofs.Common.{◌≡◌, ℕ, zero, suc, ◌*◌, ◌<◌, ◌�
 use Rattle.std.specs.List.{AllByRecursion, range_with_len}
 use Rattle.std.proofs.lemmas.List.FromFn.{length-range_with_len}
 use Rattle.std.proofs.Math.Nat.{mul_assoc}
+use Rattle.std.proofs.lemmas.List.{length-map}
 use Rattle.mn_lexer.specs.Terminals.{Terminal}
 use Rattle.mn_model.specs.Lawful.{IsLawful, IsLawfulAlias, IsLawfulDecl}
 use Rattle.mn_model.specs.Problem.{Problem, size_of_dims, declared_as, aliased_as, domains_of}
 use Rattle.mn_model.specs.declared.constraint.Term.{Term}
 use Rattle.mn_model.specs.declared.declaration.Alias.{Alias}
 use Rattle.mn_model.specs.declared.declaration.Decl.{Decl}
-use Rattle.mn_model.proofs.Kept.{AllByRecursion-at}
+use Rattle.mn_model.proofs.Lists.{all_at}
 use Rattle.mn_grammar.specs.Lawful.{Said}
 use Rattle.mn_grammar.specs.Lists.{Items, final, also, value_items}
 use Rattle.mn_references.specs.References.{Lead, lead_by, lead_of, lead_or_none, Sub, Within, Aim, at_start, entered, sub_judge, found_at, value_subs}
@@ -17,7 +18,7 @@ use Rattle.mn_references.specs.Entries.{Entry, of_ref, of_number, of_not, Place,
 use Rattle.mn_references.specs.Listing.{IsWhole}
 use Rattle.mn_references.specs.Referring.{entry_at}
 use Rattle.mn_references.proofs.Listable.{IsPlace, entry_spec, entry_law}
-use Rattle.mn_references.proofs.LawfulReferences.{called_at, map_length}
+use Rattle.mn_references.proofs.LawfulReferences.{called_at}
 
 -- 1. What an entry stands for has all terms of a whole matrix
 abbrev pub IsShaped : List ℕ → Type 0
@@ -30,10 +31,10 @@ whole_of (dim ∷ dims) n shaped is = (shaped, is)
 shaped_by : (p : Problem) → IsLawful p → (name : List ℕ) (o : Option Decl) (a : Option Alias) → declared_as p.decls name ≡ o → aliased_as p.aliases name ≡ a → IsShaped (lead_or_none (lead_by o a)).dims
 shaped_by p lawful name (Some d) a e f =
     let there = called_at (λ (d : Decl). d.name) p.decls name d e in
-    (AllByRecursion-at IsLawfulDecl p.decls there.0 d lawful.decls there.1).shaped
+    (all_at IsLawfulDecl p.decls there.0 d lawful.decls there.1).shaped
 shaped_by p lawful name None (Some a) e f =
     let there = called_at (λ (a : Alias). a.name) p.aliases name a f in
-    (AllByRecursion-at (IsLawfulAlias (domains_of p.decls)) p.aliases there.0 a lawful.aliases there.1).shaped
+    (all_at (IsLawfulAlias (domains_of p.decls)) p.aliases there.0 a lawful.aliases there.1).shaped
 shaped_by p lawful name None None e f = tt
 
 pub shaped_lead : (p : Problem) → IsLawful p → (name : List ℕ) → IsShaped (lead_or_none (lead_of p name)).dims
@@ -44,13 +45,13 @@ items_whole aim l (final sub) w = refl
 items_whole aim l (also sub subs) w = items_whole aim l subs (entered w sub)
 
 subs_whole : (aim : Aim) (l : Lead) → IsShaped l.dims → (subs : Option (Items Sub)) → IsWhole (value_subs aim l subs).dims (length (value_subs aim l subs).vars)
-subs_whole aim l shaped None = whole_of l.dims _ shaped (map_length l.at (range_with_len 0 (size_of_dims l.dims)) ∙ length-range_with_len 0 (size_of_dims l.dims))
+subs_whole aim l shaped None = whole_of l.dims _ shaped (length-map (range_with_len 0 (size_of_dims l.dims)) l.at ∙ length-range_with_len 0 (size_of_dims l.dims))
 subs_whole aim l shaped (Some subs) = subst (λ dims. IsWhole dims (length (value_subs aim l (Some subs)).vars)) (sym (items_whole aim l subs (at_start l.dims))) tt
 
 value_whole : (p : Problem) → IsLawful p → (want : Place) (e : Entry) → IsWhole (value_entry p want e).dims (length (value_entry p want e).terms)
 value_whole p lawful want (of_ref r) =
     let l = lead_or_none (lead_of p r.name.bytes) in
-    subst (λ n. IsWhole (value_subs want.aim l r.subs).dims n) (sym (map_length _ (value_subs want.aim l r.subs).vars)) (subs_whole want.aim l (shaped_lead p lawful r.name.bytes) r.subs)
+    subst (λ n. IsWhole (value_subs want.aim l r.subs).dims n) (sym (length-map (value_subs want.aim l r.subs).vars _)) (subs_whole want.aim l (shaped_lead p lawful r.name.bytes) r.subs)
 value_whole p lawful want (of_number z) = tt
 value_whole p lawful want (of_not r) = tt
 

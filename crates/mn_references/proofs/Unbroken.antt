@@ -1,17 +1,14 @@
 -- What a tree that breaks nothing tells, piece by piece.
-use Rattle.std.proofs.Common.{◌≡◌, ℕ, zero, suc, ◌+◌, ◌<◌, ◌≤◌, leb, ltb, Bool, true, false, not, List, [], ◌∷◌, ◌++◌, map, Option, Some, None, refl, arith, cond}
+use Rattle.std.proofs.Common.{◌≡◌, ℕ, zero, suc, ◌+◌, ◌<◌, ◌≤◌, leb, ltb, Bool, true, false, List, [], ◌∷◌, ◌++◌, Option, Some, None, refl, arith, cond}
 use Rattle.std.specs.List.{AllByRecursion, list_all, range_with_len}
 use Rattle.std.proofs.lemmas.Bool.{and_parts, ltb-false}
 use Rattle.std.proofs.lemmas.Bool.Decides.{nat_tests}
 use Rattle.mn_grammar.specs.Places.{Break, when, on, behind}
 use Rattle.mn_grammar.specs.declared.Kind.{Kind}
+use Rattle.mn_grammar.proofs.Steps.{on_kept}
 use Rattle.mn_references.specs.Conditions.{lesser, as_kind, unfit}
 use Rattle.mn_references.specs.declared.want.Unfit.{Unfit}
 use Rattle.mn_references.specs.declared.want.Unfit.TheVariants.{Form, Length}
-
-pub on_kept : (c : Option Kind) → on c ≡ [] → c ≡ None
-on_kept None e = refl
-on_kept (Some kind) e = cc
 
 pub parts_kept : (bs cs : List Break) → bs ++ cs ≡ [] → (bs ≡ []) × (cs ≡ [])
 parts_kept [] cs e = (refl, e)
@@ -51,40 +48,11 @@ lesser_kept None d e = (refl, e)
 lesser_kept (Some j) None e = cc
 lesser_kept (Some j) (Some k) e = absurd (lesser_at _ j k e)
 
-pub not_false : (b : Bool) → not b ≡ false → b ≡ true
-not_false true e = refl
-not_false false e = cc
-
 pub not_less : (m n : ℕ) → ltb m n ≡ false → n ≤ m
 not_less m n e = ltb-false m n e
 
 pub not_at_most : (m n : ℕ) → leb m n ≡ false → n < m
 not_at_most m n e = grind (arith, nat_tests)
-
--- lists of things that all have a property
-pub all_append : {X : Type 0} (P : X → Type 0) (xs ys : List X) → AllByRecursion P xs → AllByRecursion P ys → AllByRecursion P (xs ++ ys)
-all_append P [] ys all more = more
-all_append P (x ∷ xs) ys all more = (all.0, all_append P xs ys all.1 more)
-
-pub all_front : {X : Type 0} (P : X → Type 0) (xs ys : List X) → AllByRecursion P (xs ++ ys) → AllByRecursion P xs
-all_front P [] ys all = tt
-all_front P (x ∷ xs) ys all = (all.0, all_front P xs ys all.1)
-
-pub all_back : {X : Type 0} (P : X → Type 0) (xs ys : List X) → AllByRecursion P (xs ++ ys) → AllByRecursion P ys
-all_back P [] ys all = all
-all_back P (x ∷ xs) ys all = all_back P xs ys all.1
-
-pub all_map : {X Y : Type 0} (P : Y → Type 0) (f : X → Y) (xs : List X) → AllByRecursion (λ x. P (f x)) xs → AllByRecursion P (map f xs)
-all_map P f [] all = tt
-all_map P f (x ∷ xs) all = (all.0, all_map P f xs all.1)
-
-pub all_both : {X : Type 0} (P Q R : X → Type 0) → ((x : X) → P x → Q x → R x) → (xs : List X) → AllByRecursion P xs → AllByRecursion Q xs → AllByRecursion R xs
-all_both P Q R f [] ps qs = tt
-all_both P Q R f (x ∷ xs) ps qs = (f x ps.0 qs.0, all_both P Q R f xs ps.1 qs.1)
-
-pub all_so : {X : Type 0} (P Q : X → Type 0) → ((x : X) → P x → Q x) → (xs : List X) → AllByRecursion P xs → AllByRecursion Q xs
-all_so P Q f [] ps = tt
-all_so P Q f (x ∷ xs) ps = (f x ps.0, all_so P Q f xs ps.1)
 
 -- those of which a test holds
 pub all_pass : {X : Type 0} (P : X → Type 0) (test : X → Bool) → ((x : X) → test x ≡ true → P x) → (xs : List X) → list_all test xs ≡ true → AllByRecursion P xs

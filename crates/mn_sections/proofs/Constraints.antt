@@ -12,8 +12,8 @@ use Rattle.mn_model.specs.declared.constraint.Con.TheBlock.{more_of-Con, end_of-
 use Rattle.mn_model.specs.declared.constraint.Con.TheVariants as con
 use Rattle.mn_model.specs.declared.constraint.Term.{Term}
 use Rattle.mn_model.specs.declared.limits.TheConstants.{CELLS, CONSTRAINTS, NESTING}
-use Rattle.mn_model.proofs.Children.{all_front, all_back}
 use Rattle.mn_model.proofs.Kept.{total-push}
+use Rattle.mn_model.proofs.Lists.{all_back, all_front}
 use Rattle.mn_grammar.specs.Places.{on, behind}
 use Rattle.mn_references.specs.Conditions.{as_kind}
 use Rattle.mn_references.specs.Entries.{Placed, spell_entry, breaks_entry, value_entry, a_term}

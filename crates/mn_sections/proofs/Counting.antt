@@ -1,13 +1,6 @@
 -- Numbers, as they are tested.
-use Rattle.std.proofs.Common.{◌≡◌, ℕ, ◌+◌, ◌*◌, ◌/◌, ◌≤◌, ℤ, ◌<ℤ◌, ◌≤ℤ◌, int_lt, true, false, ap, ◌∙◌, arith}
-use Rattle.std.proofs.lemmas.Int.{ints}
+use Rattle.std.proofs.Common.{◌≡◌, ℕ, ◌+◌, ◌*◌, ◌/◌, ◌≤◌, ap, ◌∙◌, arith}
 use Rattle.std.proofs.lemmas.Nat.{div-mul-add}
-
-pub less_so : (a b : ℤ) → a <ℤ b → int_lt a b ≡ true
-less_so a b less = grind (arith, ints)
-
-pub less_not : (a b : ℤ) → b ≤ℤ a → int_lt a b ≡ false
-less_not a b le = grind (arith, ints)
 
 -- so many whole tuples of a length make that many cells
 pub whole_count : (count arity cells : ℕ) → 1 ≤ arity → cells ≡ count * arity → cells / arity ≡ count

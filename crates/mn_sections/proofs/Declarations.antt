@@ -8,12 +8,13 @@ use Rattle.mn_model.specs.declared.declaration.Alias.{Alias}
 use Rattle.mn_model.specs.declared.declaration.Decl.{Decl}
 use Rattle.mn_model.specs.declared.limits.TheConstants.{VARIABLES}
 use Rattle.mn_model.proofs.Kept.{variable_count-push}
+use Rattle.mn_model.proofs.Variables.{variable_count-cons}
 use Rattle.mn_decls.specs.Variables.{Entry, declares, names, so_far, spell_entry, breaks_entry, value_entry, breaks_entries, value_entries, breaks_declarations, value_declarations}
 use Rattle.mn_sections.specs.Trees.{declaration_of, naming_of, variables_of}
 use Rattle.mn_sections.proofs.Aliases.{alias_nothing, alias_means}
 use Rattle.mn_sections.proofs.Declaring.{decl_nothing, decl_means}
 use Rattle.mn_sections.proofs.Kept.{part_nothing}
-use Rattle.mn_sections.proofs.References.{HasVariables, variable_count-cons}
+use Rattle.mn_sections.proofs.References.{HasVariables}
 
 -- 1. Declarations, and what follows them
 abbrev declared_entries : List Decl → List Entry

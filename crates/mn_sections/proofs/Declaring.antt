@@ -1,5 +1,5 @@
 -- The declarations of an instance, as they are read.
-use Rattle.std.proofs.Common.{◌≡◌, ℕ, ◌+◌, ◌*◌, ◌≤◌, pos, ◌+ℤ◌, ◌*ℤ◌, int_lt, leb, false, ◌||◌, List, [], ◌∷◌, ◌++◌, length, map, None, is_some, refl, sym, ap, ◌∙◌, subst, arith}
+use Rattle.std.proofs.Common.{◌≡◌, ℕ, ◌+◌, ◌*◌, ◌≤◌, pos, ◌+ℤ◌, ◌*ℤ◌, int_lt, leb, false, ◌||◌, List, [], ◌∷◌, ◌++◌, length, map, None, is_some, refl, sym, ap, ◌∙◌, subst, arith, mul_assoc}
 use Rattle.std.specs.List.{AllByRecursion}
 use Rattle.std.proofs.lemmas.Bool.{or_from}
 use Rattle.std.proofs.lemmas.Int.{ints}
@@ -8,18 +8,19 @@ use Rattle.mn_model.specs.Problem.{Problem, size_of_dims, declared_as, aliased_a
 use Rattle.mn_model.specs.Variable.{number_of, variable}
 use Rattle.mn_model.specs.declared.declaration.Decl.{Decl}
 use Rattle.mn_model.specs.declared.limits.TheConstants.{VARIABLES}
+use Rattle.mn_model.proofs.Sizes.{size_of_dims-positive}
+use Rattle.mn_model.proofs.Ordered.{lt_false}
 use Rattle.mn_grammar.specs.Places.{when}
 use Rattle.mn_grammar.specs.Lists.{breaks_items}
 use Rattle.mn_grammar.specs.declared.Kind.TheVariants as kinds
 use Rattle.mn_grammar.specs.declared.Limit.TheVariants as limits
 use Rattle.mn_decls.specs.Variables.{declares, room_for_one, new_name, fair_dim, with_dim, dims_judge, alias_dim, alias_dims_judge, matrix_dims, spell_dims, breaks_dims, dims_of, breaks_domain, breaks_behind, so_far, breaks_entry, value_entry}
-use Rattle.mn_decls.proofs.Ranges.{some_places}
 use Rattle.mn_sections.specs.Trees as trees
 use Rattle.mn_sections.specs.Trees.{name_from, items_from, declaration_of}
 use Rattle.mn_sections.proofs.Domains.{domain_nothing, domain_means}
 use Rattle.mn_sections.proofs.Gathering.{mark_none, AreGathered, list_breaks, list_means}
 use Rattle.mn_sections.proofs.Names.{name_of_model}
-use Rattle.mn_sections.proofs.Counting.{less_not, no_more}
+use Rattle.mn_sections.proofs.Counting.{no_more}
 use Rattle.mn_sections.proofs.Kept.{on_none, behind_nothing, part_nothing, token_nothing, when_not, first_not, leb_not, one_of_all}
 
 -- 1. Dimensions
@@ -27,18 +28,15 @@ abbrev AreSome : List ℕ → Type 0
 AreSome dims = AllByRecursion (λ dim. 1 ≤ dim) dims
 
 at_least_one : (dim : ℕ) → 1 ≤ dim → int_lt (pos dim) (pos 1) ≡ false
-at_least_one dim some = less_not (pos dim) (pos 1) (omega (arith, ints, some))
-
-times_assoc : (a b c : ℕ) → a * (b * c) ≡ a * b * c
-times_assoc a b c = grind arith
+at_least_one dim some = lt_false (pos dim) (pos 1) (omega (arith, ints, some))
 
 -- with the first of them there are no more variables than with all
 size_append : (front back : List ℕ) → size_of_dims (front ++ back) ≡ size_of_dims front * size_of_dims back
 size_append [] back = omega arith
-size_append (d ∷ front) back = ap (λ n. d * n) (size_append front back) ∙ times_assoc d (size_of_dims front) (size_of_dims back)
+size_append (d ∷ front) back = ap (λ n. d * n) (size_append front back) ∙ sym (mul_assoc d (size_of_dims front) (size_of_dims back))
 
 no_less : (a b c : ℕ) → 1 ≤ c → a * b ≤ a * (b * c)
-no_less a b c some = let less = no_more (a * b) c some in let same = times_assoc a b c in omega (arith, less, same)
+no_less a b c some = let less = no_more (a * b) c some in let same = sym (mul_assoc a b c) in omega (arith, less, same)
 
 some_behind : (before : List ℕ) (left : List ℕ) → AreSome (before ++ left) → AreSome left
 some_behind [] left all = all
@@ -47,7 +45,7 @@ some_behind (d ∷ before) left all = some_behind before left all.1
 front_size : (dims before : List ℕ) (dim : ℕ) (left : List ℕ) → before ++ dim ∷ left ≡ dims → AreSome dims → size_of_dims before * dim ≤ size_of_dims dims
 front_size dims before dim left e all =
     let whole : size_of_dims dims ≡ size_of_dims before * (dim * size_of_dims left) = ap size_of_dims (sym e) ∙ size_append before (dim ∷ left) in
-    let some = some_places left (some_behind before (dim ∷ left) (subst AreSome (sym e) all)).1 in
+    let some = size_of_dims-positive left (some_behind before (dim ∷ left) (subst AreSome (sym e) all)).1 in
     let less = no_less (size_of_dims before) dim (size_of_dims left) some in
     omega (arith, whole, less)
 
@@ -58,7 +56,7 @@ module _ (q : Problem) (dims : List ℕ) (all : AreSome dims) (room : variable_c
       let size = front_size dims before dim left e all in
       first_not (int_lt (pos dim) (pos 1)) kinds.Shape (when (int_lt (pos VARIABLES) (pos (variable_count q.decls) +ℤ pos (size_of_dims before) *ℤ pos dim)) (kinds.Limit limits.Variables)) (at_least_one dim some)
       (when_not (int_lt (pos VARIABLES) (pos (variable_count q.decls) +ℤ pos (size_of_dims before) *ℤ pos dim)) (kinds.Limit limits.Variables)
-      (less_not (pos VARIABLES) (pos (variable_count q.decls + size_of_dims before * dim)) (omega (arith, ints, size, room))))
+      (lt_false (pos VARIABLES) (pos (variable_count q.decls + size_of_dims before * dim)) (omega (arith, ints, size, room))))
 
   dims_gathered : AreGathered (dims_judge q) with_dim pos dims
   dims_gathered before dim left e = record {
@@ -110,7 +108,7 @@ module _ (q : Problem) (d : Decl) (lawful : IsLawfulDecl d) (no_decl : declared_
 
   pub decl_nothing : breaks_entry (so_far q) (declares (declaration_of d)) ≡ []
   decl_nothing =
-      let some = some_places d.dims lawful.shaped in
+      let some = size_of_dims-positive d.dims lawful.shaped in
       token_nothing (room_for_one q) 1 (breaks_behind q (declaration_of d))
       (when_not (leb VARIABLES (variable_count q.decls)) (kinds.Limit limits.Variables) (leb_not VARIABLES (variable_count q.decls) (omega (arith, some, room))))
       behind_word

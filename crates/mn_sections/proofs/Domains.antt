@@ -4,12 +4,15 @@ use Rattle.std.specs.Prelude.{unwrap_or}
 use Rattle.std.specs.Int.{int_gap}
 use Rattle.std.specs.List.{AllByRecursion}
 use Rattle.std.proofs.lemmas.Int.{ints}
+use Rattle.std.proofs.lemmas.List.{length_push}
 use Rattle.mn_model.specs.Domain.{Ascends, IsDomain, numbers_from, stretch}
 use Rattle.mn_model.specs.Lawful.{SuitsKind}
 use Rattle.mn_model.specs.declared.limits.TheConstants.{SPAN}
 use Rattle.mn_model.specs.declared.variable.Kind as variable
 use Rattle.mn_model.specs.declared.variable.Kind.TheVariants.{Binary, Bounded, Sparse, Discrete}
 use Rattle.mn_model.proofs.Stretches.{length-numbers_from, slice_get-numbers_from, length-stretch, plus-int_gap}
+use Rattle.mn_model.proofs.Lists.{all_so}
+use Rattle.mn_model.proofs.Ordered.{lt_false, lt_true}
 use Rattle.mn_grammar.specs.Places.{when}
 use Rattle.mn_grammar.specs.declared.Kind.TheVariants as kinds
 use Rattle.mn_grammar.specs.declared.Limit.TheVariants as limits
@@ -18,8 +21,7 @@ use Rattle.mn_decls.proofs.Ranges.{stretch_one}
 use Rattle.mn_sections.specs.Trees as trees
 use Rattle.mn_sections.specs.Trees.{value_at}
 use Rattle.mn_sections.proofs.Gathering.{mark_none, AreGathered, maybe_breaks, maybe_means}
-use Rattle.mn_sections.proofs.Counting.{less_so, less_not}
-use Rattle.mn_sections.proofs.Kept.{on_none, behind_nothing, when_not, first_not, one_of_all, lengths, length_more}
+use Rattle.mn_sections.proofs.Kept.{on_none, behind_nothing, when_not, first_not, one_of_all, lengths}
 
 -- 1. The ends of a stretch
 record HasEnds (values : List ℤ) (lo hi : ℤ) : Type 0 where
@@ -54,7 +56,7 @@ stretch_ends values lo hi is = subst (λ vs. HasEnds vs (value_at vs 0) (value_a
 
 end_fair : (limited : Bool) (values : List ℤ) (lo hi : ℤ) → HasEnds values lo hi → (limited ≡ true → length values ≤ SPAN) → fair_end limited lo hi ≡ None
 end_fair limited values lo hi ends few =
-    first_not (int_lt hi lo) kinds.EmptyDomain (when (limited && int_lt (pos SPAN) (hi -ℤ lo +ℤ pos 1)) (kinds.Limit limits.Span)) (less_not hi lo ends.ordered)
+    first_not (int_lt hi lo) kinds.EmptyDomain (when (limited && int_lt (pos SPAN) (hi -ℤ lo +ℤ pos 1)) (kinds.Limit limits.Span)) (lt_false hi lo ends.ordered)
     (when_not (limited && int_lt (pos SPAN) (hi -ℤ lo +ℤ pos 1)) (kinds.Limit limits.Span) (by limited few))
   where
     by : (l : Bool) → (l ≡ true → length values ≤ SPAN) → (l && int_lt (pos SPAN) (hi -ℤ lo +ℤ pos 1)) ≡ false
@@ -63,7 +65,7 @@ end_fair limited values lo hi ends few =
         let size = length-stretch lo hi ends.ordered in
         let same = ap length ends.same in
         let most = few refl in
-        less_not (pos SPAN) (hi -ℤ lo +ℤ pos 1) (omega (arith, ints, size, same, most))
+        lt_false (pos SPAN) (hi -ℤ lo +ℤ pos 1) (omega (arith, ints, size, same, most))
 
 -- 2. Values one by one
 keeps_all : (test : ℤ → Bool) (xs : List ℤ) → AllByRecursion (λ x. test x ≡ true) xs → filter test xs ≡ xs
@@ -74,10 +76,6 @@ keeps_none : (test : ℤ → Bool) (xs : List ℤ) → AllByRecursion (λ x. tes
 keeps_none test [] all = refl
 keeps_none test (x ∷ xs) all = ap (λ b. cond b (x ∷ filter test xs) (filter test xs)) all.0 ∙ keeps_none test xs all.1
 
-all_so : (P Q : ℤ → Type 0) → ((x : ℤ) → P x → Q x) → (xs : List ℤ) → AllByRecursion P xs → AllByRecursion Q xs
-all_so P Q so [] all = tt
-all_so P Q so (x ∷ xs) all = (so x all.0, all_so P Q so xs all.1)
-
 -- those before a value that ascend to it are less
 all_less : (before : List ℤ) (a : ℤ) (left : List ℤ) → Ascends (before ++ a ∷ left) → AllByRecursion (λ x. x <ℤ a) before
 all_less [] a left up = tt
@@ -85,8 +83,8 @@ all_less (x ∷ before) a left up = (one_of_all (λ y. x <ℤ y) (before ++ a �
 
 value_added : (before : List ℤ) (a : ℤ) → AllByRecursion (λ x. x <ℤ a) before → with_range before a a ≡ before ++ a ∷ []
 value_added before a less =
-    let front = keeps_all (λ x. int_lt x a) before (all_so (λ x. x <ℤ a) (λ x. int_lt x a ≡ true) (λ x l. less_so x a l) before less) in
-    let back = keeps_none (λ x. int_lt a x) before (all_so (λ x. x <ℤ a) (λ x. int_lt a x ≡ false) (λ x l. less_not a x (omega (arith, ints, l))) before less) in
+    let front = keeps_all (λ x. int_lt x a) before (all_so (λ x. x <ℤ a) (λ x. int_lt x a ≡ true) (λ x l. lt_true x a l) before less) in
+    let back = keeps_none (λ x. int_lt a x) before (all_so (λ x. x <ℤ a) (λ x. int_lt a x ≡ false) (λ x l. lt_false a x (omega (arith, ints, l))) before less) in
     let one = stretch_one a a (omega (arith, ints)) (omega (arith, ints)) in
     λ i. front i ++ (one i ++ back i)
 
@@ -95,11 +93,11 @@ module _ (values : List ℤ) (up : Ascends values) (few : length values ≤ SPAN
   values_gathered before a left e =
       let added = value_added before a (all_less before a left (subst (λ l. Ascends l) (sym e) up)) in
       let sizes = lengths values before a left e in
-      let more = length_more before a in
+      let more = length_push before a in
       let size = ap length added in
       record {
         breaks = on_none (fair_first before a) (when_not (is_past_span (with_range before a a)) (kinds.Limit limits.Span)
-            (less_not (pos SPAN) (pos (length (with_range before a a))) (omega (arith, ints, size, more, sizes, few))));
+            (lt_false (pos SPAN) (pos (length (with_range before a a))) (omega (arith, ints, size, more, sizes, few))));
         mark = mark_none left None None (λ some. refl) (λ done. refl);
         next = added;
         last = added;

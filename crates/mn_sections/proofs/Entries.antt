@@ -1,9 +1,9 @@
 -- Terms, vectors and rows of an instance are entries that break nothing and stand for themselves.
-use Rattle.std.proofs.Common.{◌≡◌, ◌⊎◌, ℕ, ◌+◌, ◌≤◌, leb, ltb, ℤ, pos, Bool, true, false, not, ◌&&◌, ◌||◌, List, [], ◌∷◌, ◌++◌, length, map, slice_get, Option, Some, None, refl, ap, ◌∙◌, inl, inr, arith, cond, length-append}
+use Rattle.std.proofs.Common.{◌≡◌, ◌⊎◌, ℕ, ◌+◌, ◌≤◌, leb, ltb, ℤ, pos, Bool, true, false, not, ◌&&◌, ◌||◌, List, [], ◌∷◌, ◌++◌, length, map, slice_get, Option, Some, None, refl, ap, ◌∙◌, inl, inr, arith, cond}
 use Rattle.std.specs.List.{AllByRecursion, list_all}
 use Rattle.std.specs.Ordering.{int_eq}
 use Rattle.std.proofs.lemmas.Bool.Decides.{nat_tests}
-use Rattle.std.proofs.lemmas.List.{append_assoc}
+use Rattle.std.proofs.lemmas.List.{append_assoc, length_push}
 use Rattle.mn_model.specs.Lawful.{IsLawfulTerm, IsBit, AreBits, IsLawfulRow}
 use Rattle.mn_model.specs.Problem.{Problem, domains_of}
 use Rattle.mn_model.specs.Variable.{number_of}
@@ -116,17 +116,14 @@ module _ (p q : Problem) (has : HasVariables p q) where
     entry_value : (before : List Term) (t : Term) → IsLawfulTerm domains t → value_entry q (in_list q b before) (entry_of p t) ≡ one_placed t
     entry_value before t lawful = stands_for (in_list q b before) t lawful
 
-    longer : (before : List Term) (t : Term) → length (before ++ t ∷ []) ≡ length before + 1
-    longer before t = length-append before (t ∷ [])
-
     closes : (before : List Term) (t : Term) → b.least ≤ length before + 1 → lesser (as_kind None) (when (ltb (length (before ++ t ∷ [])) b.least) Shape) ≡ None
-    closes before t least = let less : ltb (length (before ++ t ∷ [])) b.least ≡ false = grind (arith, nat_tests, longer before t) in rw less refl
+    closes before t least = let less : ltb (length (before ++ t ∷ [])) b.least ≡ false = grind (arith, nat_tests, length_push before t) in rw less refl
 
     goes_on : (before : List Term) (t : Term) → length before + 2 ≤ PLACES → length before + 2 ≤ b.most
         → lesser (when (leb PLACES (length (before ++ t ∷ []))) (Limit Vector)) (when (leb b.most (length (before ++ t ∷ []))) Shape) ≡ None
     goes_on before t short most =
-        let one : leb PLACES (length (before ++ t ∷ [])) ≡ false = grind (arith, nat_tests, longer before t) in
-        let two : leb b.most (length (before ++ t ∷ [])) ≡ false = grind (arith, nat_tests, longer before t) in
+        let one : leb PLACES (length (before ++ t ∷ [])) ≡ false = grind (arith, nat_tests, length_push before t) in
+        let two : leb b.most (length (before ++ t ∷ [])) ≡ false = grind (arith, nat_tests, length_push before t) in
         rw (one, two) refl
 
     all_fit : (before : List Term) (t : Term) (others : List Term) → AllByRecursion (IsLawfulTerm domains) (t ∷ others) → b.least ≤ length before + length (t ∷ others)
@@ -140,7 +137,7 @@ module _ (p q : Problem) (has : HasVariables p q) where
       entry_breaks before t lawful.0 (omega arith) (omega arith) (λ e. (bits e).0),
       rw (entry_value before t lawful.0) (goes_on before t (omega arith) (omega arith)),
       rw (entry_value before t lawful.0)
-          (all_fit (before ++ t ∷ []) u others lawful.1 (omega (arith, longer before t)) (omega (arith, longer before t)) (omega (arith, longer before t)) (λ e. (bits e).1)),
+          (all_fit (before ++ t ∷ []) u others lawful.1 (omega (arith, length_push before t)) (omega (arith, length_push before t)) (omega (arith, length_push before t)) (λ e. (bits e).1)),
     )
 
     items_stand : (before : List Term) (t : Term) (others : List Term) → AllByRecursion (IsLawfulTerm domains) (t ∷ others)

@@ -8,7 +8,7 @@ use Rattle.mn_model.specs.declared.constraint.Con.{Con}
 use Rattle.mn_model.specs.declared.constraint.Tab.{Tab}
 use Rattle.mn_model.specs.declared.constraint.Term.{Term}
 use Rattle.mn_model.specs.declared.limits.TheConstants.{CELLS}
-use Rattle.mn_model.proofs.Children.{all_front, all_back}
+use Rattle.mn_model.proofs.Lists.{all_back, all_front, filled_length}
 use Rattle.mn_grammar.specs.Places.{behind}
 use Rattle.mn_grammar.specs.Rows.{Arguments}
 use Rattle.mn_language.specs.Arguments.{Value, of_numbers, of_tuples, Written}
@@ -18,7 +18,7 @@ use Rattle.mn_language.specs.declared.forms.Argument.TheVariants.{Term as a_term
 use Rattle.mn_language.specs.declared.forms.Leaf.{Leaf}
 use Rattle.mn_sections.specs.Constraining.{table_of}
 use Rattle.mn_sections.specs.Trees.{maybe_items, entry_of, vector_of}
-use Rattle.mn_sections.proofs.Rows.{AreArguments, row_breaks, row_values, one_term, whole_vector, one_number, filled, term_said, number_said, range_said, any_said, some_said, bits_said, like_said, any_numbers_said, pairs_said, weights_said, like_numbers_said, tuples_said}
+use Rattle.mn_sections.proofs.Rows.{AreArguments, row_breaks, row_values, one_term, whole_vector, one_number, term_said, number_said, range_said, any_said, some_said, bits_said, like_said, any_numbers_said, pairs_said, weights_said, like_numbers_said, tuples_said}
 use Rattle.mn_sections.proofs.References.{HasVariables}
 
 -- 1. The tree breaks nothing, and stands for the constraint, where d forms may stand inside one another and tuples have
@@ -113,4 +113,4 @@ module _ (p q : Problem) (has : HasVariables p q) (same : q.tuples ≡ p.tuples)
 
   -- a vector and its table
   pub vector_table : (v : List Term) (tab : Tab) → AreTerms v → IsShort v → (v ≡ [] → ⊥) → SuitsTable p.tuples (length v, tab) → n + length (cells_here tab) ≤ CELLS → AreArguments q n (some_vector ∷ Tuples ∷ []) [] (vector_of p v, (table_of p tab, tt)) (whole_vector v ∷ of_tuples tab ∷ [])
-  vector_table v tab is short none suits room = (some_said p q has same n v is short none, (tuples_said p q has same n tab (length v) refl (filled v none) suits room, tt))
+  vector_table v tab is short none suits room = (some_said p q has same n v is short none, (tuples_said p q has same n tab (length v) refl (filled_length v none) suits room, tt))

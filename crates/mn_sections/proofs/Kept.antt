@@ -50,6 +50,3 @@ one_of_all {X = X} P whole before x left e all = at before (subst (λ l. AllByRe
 
 pub lengths : {X : Type 0} (whole before : List X) (x : X) (left : List X) → before ++ x ∷ left ≡ whole → length before + (length left + 1) ≡ length whole
 lengths whole before x left e = let all = ap length e in let sum = length-append before (x ∷ left) in omega (arith, all, sum)
-
-pub length_more : {X : Type 0} (before : List X) (x : X) → length (before ++ x ∷ []) ≡ length before + 1
-length_more before x = length-append before (x ∷ [])

@@ -1,17 +1,13 @@
 -- The names of an instance are names of the grammar.
-use Rattle.std.proofs.Common.{◌≡◌, ℕ, Bool, true, false, ◌||◌, ◌&&◌, ◌==◌, List, [], ◌∷◌, refl, arith}
+use Rattle.std.proofs.Common.{◌≡◌, ℕ, Bool, true, false, ◌&&◌, ◌==◌, List, [], ◌∷◌, refl, arith}
 use Rattle.std.specs.List.{list_all, list_any}
 use Rattle.std.specs.Char.{is_ascii_alphabetic}
 use Rattle.std.specs.Str.{byte}
 use Rattle.std.proofs.lemmas.Bool.Decides.{nat_tests}
-use Rattle.std.proofs.lemmas.Bool.{and_parts}
+use Rattle.std.proofs.lemmas.Bool.{and_parts, or_from}
 use Rattle.mn_grammar.specs.Tokens.{is_name}
 use Rattle.mn_model.specs.Name.{IsName, begins_name, continues_name}
 use Rattle.mn_sections.specs.Trees.{name_by, name_from}
-
-none_of_two : (a b : Bool) → a ≡ false → b ≡ false → (a || b) ≡ false
-none_of_two true b e f = cc
-none_of_two false b e f = f
 
 not_dash : (b : ℕ) → continues_name b ≡ true → (b == byte "-") ≡ false
 not_dash b goes_on = grind (arith, nat_tests)
@@ -26,7 +22,7 @@ no_dashes : (bs : List ℕ) → list_all continues_name bs ≡ true → list_any
 no_dashes [] all = refl
 no_dashes (b ∷ bs) all =
     let parts = and_parts (continues_name b) (list_all continues_name bs) all in
-    none_of_two (b == byte "-") _ (not_dash b parts.0) (no_dashes bs parts.1)
+    or_from (b == byte "-") _ (not_dash b parts.0) (no_dashes bs parts.1)
 
 with_true : (a : Bool) → a ≡ false → (a && true) ≡ false
 with_true true e = cc

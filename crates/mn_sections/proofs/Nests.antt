@@ -5,10 +5,10 @@ use Rattle.std.proofs.lemmas.List.{length-take-le, take_all, take-append-drop}
 use Rattle.mn_model.specs.Lawful.{IsKnown}
 use Rattle.mn_model.specs.Problem.{Problem, size_of_dims, domains_of}
 use Rattle.mn_model.specs.declared.variable.VarId.{VarId}
+use Rattle.mn_model.proofs.Lists.{all_back, all_front}
 use Rattle.mn_grammar.specs.Places.{on, behind}
 use Rattle.mn_grammar.specs.declared.Kind.TheVariants as kinds
 use Rattle.mn_references.specs.References.{Found, breaks_ref, value_ref, one_place}
-use Rattle.mn_references.proofs.Unbroken.{all_front, all_back}
 use Rattle.mn_decls.specs.Aliases.{Nest, Nests, one_var, last_nest, nest_and, spell_nest, at_next, at_last, behind_nest, breaks_nest, breaks_nests, with_nest, with_nests}
 use Rattle.mn_sections.specs.Matrices.{rows_of}
 use Rattle.mn_sections.specs.Trees.{one_of, nests_from, nest_from}

@@ -1,7 +1,7 @@
 -- What an instance says of the search, entry by entry: the variables of VARORDER, their directions, and the rows of PRINT.
 use Rattle.std.proofs.Common.{◌≡◌, ℕ, ◌+◌, ◌≤◌, ltb, leb, Bool, true, false, List, [], ◌∷◌, ◌++◌, length, map, None, refl, sym, ap, ◌∙◌, arith}
 use Rattle.std.specs.List.{AllByRecursion}
-use Rattle.std.proofs.lemmas.List.{map-id}
+use Rattle.std.proofs.lemmas.List.{map-id, length_push}
 use Rattle.mn_model.specs.Lawful.{IsKnown, IsLawfulRow}
 use Rattle.mn_model.specs.Problem.{Problem, domains_of}
 use Rattle.mn_model.specs.declared.constraint.Term.{Term}
@@ -21,7 +21,7 @@ use Rattle.mn_sections.specs.Trees.{ref_of, row_of, maybe_items}
 use Rattle.mn_sections.proofs.Entries.{row_breaks, row_value}
 use Rattle.mn_sections.proofs.Gathering.{mark_breaks, mark_none, AreGathered, maybe_breaks, maybe_means}
 use Rattle.mn_sections.proofs.References.{HasVariables, ref_breaks, ref_value}
-use Rattle.mn_sections.proofs.Kept.{on_none, when_not, ltb_not, leb_not, one_of_all, lengths, length_more}
+use Rattle.mn_sections.proofs.Kept.{on_none, when_not, ltb_not, leb_not, one_of_all, lengths}
 
 pub unfit_not : (b : Bool) (u : Unfit) → b ≡ false → unfit b u ≡ None
 unfit_not true u e = cc
@@ -34,7 +34,7 @@ module _ (p q : Problem) (has : HasVariables p q) where
       let here = one_of_all (IsKnown (domains_of p.decls)) vars before v left e known in
       let value : value_ref q (order_aim before) (ref_of p v) ≡ record { vars = v ∷ []; dims = []; behind = None } = ref_value p q has v here (order_aim before) in
       let sizes = lengths vars before v left e in
-      let more = length_more before v in
+      let more = length_push before v in
       record {
         breaks = ref_breaks p q has v here (order_aim before) (unfit_not (ltb PLACES (length before + 1)) Length (ltb_not PLACES (length before + 1) (omega (arith, sizes, few))));
         mark =

@@ -1,18 +1,17 @@
 -- A variable by the name and the indices of its declaration is a reference to it.
-use Rattle.std.proofs.Common.{◌≡◌, ℕ, zero, suc, ◌+◌, ◌-◌, ◌*◌, ◌<◌, ◌≤◌, nat_lt, true, false, List, [], ◌∷◌, ◌++◌, replicate, slice_get, Option, Some, None, refl, sym, ap, ◌∙◌, subst, inl, inr, arith, cond, length-append, bytes_eq}
+use Rattle.std.proofs.Common.{◌≡◌, ℕ, zero, suc, ◌+◌, ◌-◌, ◌*◌, ◌<◌, ◌≤◌, nat_lt, true, false, List, [], ◌∷◌, ◌++◌, slice_get, Option, Some, None, refl, sym, ap, ◌∙◌, subst, inl, inr, arith, cond, bytes_eq}
 use Rattle.std.specs.List.{AllByRecursion}
 use Rattle.std.proofs.lemmas.Bool.{cases_Bool}
 use Rattle.std.proofs.lemmas.Bool.Decides.{nat_tests}
-use Rattle.std.proofs.lemmas.List.{length-replicate, append_assoc}
-use Rattle.std.proofs.lemmas.Slice.Eq.{bytes_eq-Decides}
-use Rattle.std.proofs.Common.{rules}
+use Rattle.std.proofs.lemmas.List.{append_assoc}
 use Rattle.mn_model.specs.Lawful.{IsLawful, IsLawfulDecl, IsKnown, AreNewAfter, AreNumberedFrom}
-use Rattle.mn_model.specs.Problem.{Problem, size_of_dims, variables_of, variable_count, domains_of, called, declared_as, aliased_as}
+use Rattle.mn_model.specs.Problem.{Problem, size_of_dims, variable_count, domains_of, called, declared_as, aliased_as}
 use Rattle.mn_model.specs.Variable.{number_of, variable}
 use Rattle.mn_model.specs.declared.declaration.Decl.{Decl}
 use Rattle.mn_model.specs.declared.variable.VarId.{VarId}
-use Rattle.mn_model.proofs.Kept.{AllByRecursion-at}
-use Rattle.mn_model.proofs.Variables.{length-domains_of}
+use Rattle.mn_model.proofs.Variables.{length-domains_of, variable_count-cons}
+use Rattle.mn_model.proofs.Lists.{all_at}
+use Rattle.mn_model.proofs.Named.{same_bytes}
 use Rattle.mn_grammar.specs.Places.{on, behind}
 use Rattle.mn_references.specs.References.{Aim, Found, Lead, lead_by, lead_of, lead_or_none, at_name, breaks_subs, value_subs, breaks_ref, value_ref}
 use Rattle.mn_sections.specs.Matrices.{indices_of}
@@ -34,9 +33,6 @@ record IsAt (n : ℕ) (decls : List Decl) (v : ℕ) : Type 0 where
   within : index < size_of_dims decl.dims
   number : number_of decl.first + index ≡ n + v
   ref : numbered_ref decls v ≡ place_ref decl index
-
-pub variable_count-cons : (d : Decl) (decls : List Decl) → variable_count (d ∷ decls) ≡ size_of_dims d.dims + variable_count decls
-variable_count-cons d decls = length-append (replicate (size_of_dims d.dims) d) (variables_of decls) ∙ ap (λ k. k + variable_count decls) (length-replicate (size_of_dims d.dims) d)
 
 here : (n : ℕ) (d : Decl) (decls : List Decl) (v : ℕ) → number_of d.first ≡ n → nat_lt v (size_of_dims d.dims) ≡ true → IsAt n (d ∷ decls) v
 here n d decls v first less = record {
@@ -82,11 +78,8 @@ module _ {X : Type 0} (name_of : X → List ℕ) where
         | inr other ↦ rw other (called_front xs ys name (let found : ◌≡◌ {A = Option X} (cond (bytes_eq name (name_of x)) (Some x) (called name_of xs name)) (called name_of xs name) = rw other refl in sym found ∙ e))
       ]
 
-  same_name : (name : List ℕ) → bytes_eq name name ≡ true
-  same_name name = let h : name ≡ name = refl in search (rules, bytes_eq-Decides)
-
   called_first : (x : X) (xs : List X) → called name_of (x ∷ xs) (name_of x) ≡ Some x
-  called_first x xs = rw (same_name (name_of x)) refl
+  called_first x xs = rw (same_bytes (name_of x)) refl
 
   called_behind : (earlier xs : List X) (i : ℕ) (x : X) → AreNewAfter name_of earlier xs → slice_get xs i ≡ Some x → called name_of (earlier ++ xs) (name_of x) ≡ Some x
   called_behind earlier [] i x new at = cc
@@ -155,7 +148,7 @@ module _ (p q : Problem) (has : HasVariables p q) where
     stands = is_at 0 p.decls (number_of v) has.lawful.numbered (omega (arith, length-domains_of p.decls))
 
     lawful_decl : IsLawfulDecl stands.decl
-    lawful_decl = AllByRecursion-at IsLawfulDecl p.decls stands.place stands.decl has.lawful.decls stands.declared
+    lawful_decl = all_at IsLawfulDecl p.decls stands.place stands.decl has.lawful.decls stands.declared
 
     is_same : variable (number_of stands.decl.first + stands.index) ≡ v
     is_same = let same : 0 + number_of v ≡ number_of v = omega arith in ap variable (stands.number ∙ same)

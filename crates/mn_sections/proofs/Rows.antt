@@ -7,6 +7,7 @@ use Rattle.mn_model.specs.Problem.{Problem, domains_of}
 use Rattle.mn_model.specs.declared.constraint.Tab.{Tab}
 use Rattle.mn_model.specs.declared.constraint.Term.{Term}
 use Rattle.mn_model.specs.declared.limits.TheConstants.{CELLS, PLACES}
+use Rattle.mn_model.proofs.Lists.{filled_length}
 use Rattle.mn_grammar.specs.Places.{on, behind}
 use Rattle.mn_grammar.specs.Rows.{Arguments, breaks_more, values_more, breaks_row, values_row}
 use Rattle.mn_language.specs.Arguments.{Value, of_terms, of_numbers, of_tuples, placed_value, behind_value, behind_last, length_wanted, numbers_wanted, vector_wanted, Written, spell_argument, breaks_argument, value_argument, arguments}
@@ -16,6 +17,7 @@ use Rattle.mn_language.specs.declared.forms.Numbers.{Numbers}
 use Rattle.mn_language.specs.declared.forms.Numbers.TheVariants as numbers
 use Rattle.mn_language.specs.declared.forms.Places.{Places}
 use Rattle.mn_language.specs.declared.forms.Places.TheVariants as places
+use Rattle.mn_language.proofs.LawfulArguments.{last_is}
 use Rattle.mn_sections.specs.Constraining.{table_of}
 use Rattle.mn_sections.specs.Trees.{maybe_items, entry_of, vector_of}
 use Rattle.mn_sections.proofs.Numbers.{IsCount, list_breaks, list_value, even_length}
@@ -36,11 +38,6 @@ AreArguments q used [] before a [] = Unit {0}
 AreArguments q used [] before a (v ∷ vs) = ⊥
 AreArguments q used (k ∷ ks) before a [] = ⊥
 AreArguments q used (k ∷ ks) before a (v ∷ vs) = IsArgument q used k before a.0 v × AreArguments q used ks (before ++ v ∷ []) a.1 vs
-
-last_is : (vs : List Value) (v : Value) → behind_last (vs ++ v ∷ []) ≡ behind_value v
-last_is [] v = refl
-last_is (w ∷ []) v = refl
-last_is (w ∷ x ∷ vs) v = last_is (x ∷ vs) v
 
 module _ (q : Problem) (used : ℕ) where
   -- the mark behind an argument
@@ -93,10 +90,6 @@ whole_vector v = of_terms v None
 abbrev pub one_number : ℤ → Value
 one_number z = of_numbers (z ∷ [])
 
-pub filled : (v : List Term) → (v ≡ [] → ⊥) → 1 ≤ length v
-filled [] none = absurd (none refl)
-filled (x ∷ v) none = omega arith
-
 module _ (p q : Problem) (has : HasVariables p q) (same : q.tuples ≡ p.tuples) (used : ℕ) where
   abbrev IsTerm : Term → Type 0
   IsTerm t = IsLawfulTerm (domains_of p.decls) t
@@ -123,7 +116,7 @@ module _ (p q : Problem) (has : HasVariables p q) (same : q.tuples ≡ p.tuples)
   any_said v is short = vector_said places.Any v (record { lawful = is; least = omega arith; most = short; short = short; bits = λ no. cc })
 
   pub some_said : {before : List Value} (v : List Term) → AllByRecursion IsTerm v → IsShort v → (v ≡ [] → ⊥) → IsArgument q used (takes.Vector places.Some) before (vector_of p v) (whole_vector v)
-  some_said v is short none = vector_said places.Some v (record { lawful = is; least = filled v none; most = short; short = short; bits = λ no. cc })
+  some_said v is short none = vector_said places.Some v (record { lawful = is; least = filled_length v none; most = short; short = short; bits = λ no. cc })
 
   pub bits_said : {before : List Value} (v : List Term) → AllByRecursion IsTerm v → IsShort v → AllByRecursion (IsBit (domains_of p.decls)) v → IsArgument q used (takes.Vector places.Bits) before (vector_of p v) (whole_vector v)
   bits_said v is short bits = vector_said places.Bits v (record { lawful = is; least = omega arith; most = short; short = short; bits = λ yes. bits })

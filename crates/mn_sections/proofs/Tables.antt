@@ -1,19 +1,19 @@
 -- Tables break nothing, and stand for themselves.
-use Rattle.std.proofs.Common.{◌≡◌, ℕ, zero, suc, ◌+◌, ◌*◌, ◌-◌, ◌/◌, ◌≤◌, ◌==◌, ℤ, Bool, true, false, not, cond, List, [], ◌∷◌, ◌++◌, length, map, take, drop, slice_get, Option, Some, None, refl, sym, ap, ◌∙◌, subst, arith, append_assoc, length-append, take_all}
+use Rattle.std.proofs.Common.{◌≡◌, ℕ, zero, suc, ◌+◌, ◌*◌, ◌-◌, ◌/◌, ◌≤◌, ◌==◌, ℤ, true, false, not, cond, List, [], ◌∷◌, ◌++◌, length, map, take, drop, slice_get, Option, Some, None, refl, sym, ap, ◌∙◌, subst, arith, append_assoc, length-append, take_all}
 use Rattle.std.proofs.lemmas.Bool.Decides.{nat_tests}
-use Rattle.std.proofs.lemmas.List.{length-take-le, length-drop, take-append-drop}
-use Rattle.std.proofs.lemmas.Slice.Eq.{bytes_eq-Decides}
+use Rattle.std.proofs.lemmas.List.{length-take-le, length-drop, take-append-drop, nil_from_length}
 use Rattle.std.proofs.Math.Nat.{mul-div_cancel}
 use Rattle.std.specs.Option.{option_map}
 use Rattle.std.specs.Str.{bytes_eq}
 use Rattle.mn_model.specs.Lawful.{AreNewAfter, IsLawful, IsLawfulTuples, MakeTuples, SuitsTable}
 use Rattle.mn_model.specs.Parts.{cells_here}
-use Rattle.mn_model.specs.Problem.{Problem, called, listed_as}
+use Rattle.mn_model.specs.Problem.{Problem, listed_as}
 use Rattle.mn_model.specs.declared.constraint.Tab.{Tab}
 use Rattle.mn_model.specs.declared.constraint.Tab.TheVariants.{Named, Here}
 use Rattle.mn_model.specs.declared.declaration.Tuples.{Tuples}
 use Rattle.mn_model.specs.declared.limits.TheConstants.{CELLS}
-use Rattle.mn_model.proofs.Kept.{AllByRecursion-at}
+use Rattle.mn_model.proofs.Lists.{all_at}
+use Rattle.mn_model.proofs.Named.{later_new, not_last, same_bytes}
 use Rattle.mn_grammar.specs.Places.{on, behind}
 use Rattle.mn_grammar.specs.Lists.{breaks_items, value_items}
 use Rattle.mn_grammar.specs.declared.Kind.TheVariants.{Shape, Limit}
@@ -94,11 +94,6 @@ module _ (used n : ℕ) (least : 1 ≤ n) where
       ap (λ (v : List ℤ). value_items (tuple_judge used n) with_tuple (items_from (tuple_of (take n rest)) (map tuple_of (rows_of n k (drop n rest)))) (before ++ v)) (one_value n t least is.here)
       ∙ (tuples_value k (before ++ t) rest is.others is.later ∙ is.joined)
 
--- so many of them as the cells make
-no_numbers : (xs : List ℤ) → length xs ≡ 0 → xs ≡ []
-no_numbers [] size = refl
-no_numbers (x ∷ xs) size = absurd (omega (arith, size))
-
 -- the table breaks nothing, and stands for this one
 pub record IsTabled (q : Problem) (used n : ℕ) (t : Table) (tab : Tab) : Type 0 where
   pub kept : breaks_table q used n t ≡ []
@@ -109,7 +104,7 @@ table_by n count cells = here (maybe_items (map tuple_of (rows_of n count cells)
 
 counted_said : (q : Problem) (used n count : ℕ) (cells : List ℤ) → 1 ≤ n → length cells ≡ count * n → used + length cells ≤ CELLS → IsTabled q used n (table_by n count cells) (Here n cells)
 counted_said q used n zero cells least size room =
-    record { kept = refl; means = ap (λ (zs : List ℤ). Here n zs) (sym (no_numbers cells (size ∙ none_times n))) }
+    record { kept = refl; means = ap (λ (zs : List ℤ). Here n zs) (sym (nil_from_length cells (size ∙ none_times n))) }
   where
     none_times : (n : ℕ) → 0 * n ≡ 0
     none_times n = omega arith
@@ -124,37 +119,6 @@ here_said p q used n cells least tuples room =
     subst (λ count. IsTabled q used n (table_by n count cells) (Here n cells)) (sym exact) (counted_said q used n tuples.0 cells least tuples.1 room)
 
 -- 2. A table by the name of its tuple list
-same_bytes : (xs : List ℕ) → bytes_eq xs xs ≡ true
-same_bytes xs = (bytes_eq-Decides xs xs).1 refl
-
-module _ {X : Type 0} (name_of : X → List ℕ) where
-  -- a name that none of some has none of the first of them has, and the last of them doesn't have it
-  none_before : (xs ys : List X) (name : List ℕ) → called name_of (xs ++ ys) name ≡ None → called name_of xs name ≡ None
-  none_before [] ys name e = refl
-  none_before (x ∷ xs) ys name e = by (bytes_eq name (name_of x)) e (none_before xs ys name)
-    where
-      by : (b : Bool) → cond b (Some x) (called name_of (xs ++ ys) name) ≡ None → (called name_of (xs ++ ys) name ≡ None → called name_of xs name ≡ None) → cond b (Some x) (called name_of xs name) ≡ None
-      by true e later = cc
-      by false e later = later e
-
-  not_last : (xs : List X) (x : X) (name : List ℕ) → called name_of (xs ++ x ∷ []) name ≡ None → bytes_eq name (name_of x) ≡ false
-  not_last [] x name e = by (bytes_eq name (name_of x)) e
-    where
-      by : (b : Bool) → cond b (Some x) None ≡ None → b ≡ false
-      by true e = cc
-      by false e = refl
-  not_last (y ∷ xs) x name e = by (bytes_eq name (name_of y)) e (not_last xs x name)
-    where
-      by : (b : Bool) → cond b (Some y) (called name_of (xs ++ x ∷ []) name) ≡ None → (called name_of (xs ++ x ∷ []) name ≡ None → bytes_eq name (name_of x) ≡ false) → bytes_eq name (name_of x) ≡ false
-      by true e later = cc
-      by false e later = later e
-
-  -- the name of a later one isn't among the earlier ones
-  later_new : (earlier xs : List X) (i : ℕ) (x : X) → AreNewAfter name_of earlier xs → slice_get xs i ≡ Some x → called name_of earlier (name_of x) ≡ None
-  later_new earlier [] i x new is = cc
-  later_new earlier (y ∷ xs) zero x new is = let same : y ≡ x = cc in subst (λ z. called name_of earlier (name_of z) ≡ None) same new.0
-  later_new earlier (y ∷ xs) (suc i) x new is = none_before earlier (y ∷ []) (name_of x) (later_new (earlier ++ y ∷ []) xs i x new.1 is)
-
 -- a tuple list is the first with its name, so its name leads back to its place
 place_listed : (earlier ts : List Tuples) (n : ℕ) (t : Tuples) → AreNewAfter (λ t. t.name) earlier ts → slice_get ts n ≡ Some t → list_place ts t.name ≡ n
 place_listed earlier [] n t new is = cc
@@ -172,7 +136,7 @@ module _ (p q : Problem) (lawful : IsLawful p) (same : q.tuples ≡ p.tuples) (u
   named_said : (i : ℕ) (o : Option Tuples) → slice_get p.tuples i ≡ o → option_map (λ t. t.arity) o ≡ Some n → IsTabled q used n (named (list_name o)) (Named i)
   named_said i None is suits = cc
   named_said i (Some t) is suits =
-      let spelled : (name_from t.name).bytes ≡ t.name = name_of_model t.name (AllByRecursion-at IsLawfulTuples p.tuples i t lawful.tuples is).named in
+      let spelled : (name_from t.name).bytes ≡ t.name = name_of_model t.name (all_at IsLawfulTuples p.tuples i t lawful.tuples is).named in
       let long : t.arity ≡ n = cc in
       record {
         kept =

@@ -8,6 +8,7 @@ use Rattle.mn_model.specs.Problem.{Problem, total, listed_as, cells_of}
 use Rattle.mn_model.specs.declared.declaration.Tuples.{Tuples}
 use Rattle.mn_model.specs.declared.limits.TheConstants.{CELLS}
 use Rattle.mn_model.proofs.Kept.{total-push}
+use Rattle.mn_model.proofs.Ordered.{lt_false, lt_true}
 use Rattle.mn_grammar.specs.Places.{when}
 use Rattle.mn_grammar.specs.declared.Kind.TheVariants as kinds
 use Rattle.mn_grammar.specs.declared.Limit.TheVariants as limits
@@ -16,7 +17,7 @@ use Rattle.mn_decls.specs.TupleLists.{whole, spell_list, after_list, new_list, i
 use Rattle.mn_sections.specs.Trees.{name_from, tuple_list_of}
 use Rattle.mn_sections.specs.Matrices.{tuple_count}
 use Rattle.mn_sections.proofs.Names.{name_of_model}
-use Rattle.mn_sections.proofs.Counting.{less_so, less_not, whole_count, no_more}
+use Rattle.mn_sections.proofs.Counting.{whole_count, no_more}
 use Rattle.mn_sections.proofs.Kept.{part_nothing, token_nothing, when_not, first_not}
 
 -- 1. The numbers of a list are no more than are wanted
@@ -24,7 +25,7 @@ numbers_nothing : (cells before left : List ℤ) → before ++ left ≡ cells �
 numbers_nothing cells before [] e = refl
 numbers_nothing cells before (z ∷ left) e =
     token_nothing (fair_number (pos (length cells)) before z) 1 (breaks_numbers (pos (length cells)) (before ++ z ∷ []) left)
-    (when_not (not (int_lt (pos (length before)) (pos (length cells)))) kinds.Shape (ap not (less_so (pos (length before)) (pos (length cells)) room)))
+    (when_not (not (int_lt (pos (length before)) (pos (length cells)))) kinds.Shape (ap not (lt_true (pos (length before)) (pos (length cells)) room)))
     (numbers_nothing cells (before ++ z ∷ []) left (append_assoc before (z ∷ []) left ∙ e))
   where
     room : pos (length before) <ℤ pos (length cells)
@@ -42,7 +43,7 @@ module _ (q : Problem) (t : Tuples) (lawful : IsLawfulTuples t) (is_new : listed
   fewer = let more = no_more count t.arity lawful.least in omega (arith, more, filled)
 
   fits : (n : ℕ) → n ≤ length t.cells → is_past_cells q (pos n) ≡ false
-  fits n le = less_not (pos CELLS) (pos (cells_of q + n)) (omega (arith, ints, room, le))
+  fits n le = lt_false (pos CELLS) (pos (cells_of q + n)) (omega (arith, ints, room, le))
 
   name_new : new_list (whole q) (name_from t.name).bytes ≡ None
   name_new = first_not (is_some (listed_as q.tuples (name_from t.name).bytes)) kinds.Name None
@@ -50,11 +51,11 @@ module _ (q : Problem) (t : Tuples) (lawful : IsLawfulTuples t) (is_new : listed
 
   count_fair : fair_count q (pos count) ≡ None
   count_fair = first_not (int_lt (pos count) (pos 0)) kinds.Shape (when (is_past_cells q (pos count)) (kinds.Limit limits.Cells))
-      (less_not (pos count) (pos 0) (omega (arith, ints))) (when_not (is_past_cells q (pos count)) (kinds.Limit limits.Cells) (fits count fewer))
+      (lt_false (pos count) (pos 0) (omega (arith, ints))) (when_not (is_past_cells q (pos count)) (kinds.Limit limits.Cells) (fits count fewer))
 
   size_fair : fair_size q (pos count) (pos t.arity) ≡ None
   size_fair = first_not (int_lt (pos t.arity) (pos 1)) kinds.Shape (when (is_past_cells q (pos (count * t.arity))) (kinds.Limit limits.Cells))
-      (less_not (pos t.arity) (pos 1) (let least = lawful.least in omega (arith, ints, least)))
+      (lt_false (pos t.arity) (pos 1) (let least = lawful.least in omega (arith, ints, least)))
       (when_not (is_past_cells q (pos (count * t.arity))) (kinds.Limit limits.Cells) (fits (count * t.arity) (omega (arith, filled))))
 
   numbers_fit : breaks_numbers (pos (count * t.arity)) [] t.cells ≡ []
@@ -69,7 +70,7 @@ module _ (q : Problem) (t : Tuples) (lawful : IsLawfulTuples t) (is_new : listed
   list_means : after_list (whole q) (tuple_list_of t) ≡ whole (record q { tuples = q.tuples ++ t ∷ [] })
   list_means =
       let name = name_of_model t.name lawful.named in
-      let enough : int_lt (pos (length t.cells)) (pos (count * t.arity)) ≡ false = less_not (pos (length t.cells)) (pos (count * t.arity)) (omega (arith, ints, filled)) in
+      let enough : int_lt (pos (length t.cells)) (pos (count * t.arity)) ≡ false = lt_false (pos (length t.cells)) (pos (count * t.arity)) (omega (arith, ints, filled)) in
       λ i. record { problem = with_tuples q (name i) t.arity t.cells; lacks = enough i }
 
 -- 3. All of them

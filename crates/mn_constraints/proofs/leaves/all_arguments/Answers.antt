@@ -1,6 +1,5 @@
-use Rattle.std.proofs.Common.{◌≡◌, ◌∷◌, ◌++◌, [], ◌+◌, length, sym, ap, ◌∙◌, length-append}
+use Rattle.std.proofs.Common.{◌≡◌, ◌∷◌, [], length, sym, ap, ◌∙◌, length-append}
 use Rattle.std.proofs.lemmas.Result.{err_from_is_err_and}
-use Rattle.mn_model.specs.Problem.{Problem}
 use Rattle.mn_cursor.specs.Progress.{Progress, rest}
 use Rattle.mn_language.specs.Values.{value_seen}
 use Rattle.mn_references.proofs.Stepping.{moves_on}

@@ -1,8 +1,6 @@
-use Rattle.std.proofs.Common.{◌≡◌, ◌+◌, ◌≤◌, subst, arith}
+use Rattle.std.proofs.Common.{subst, arith}
 use Rattle.mn_cursor.specs.Progress.{rest}
 use Rattle.mn_model.specs.Lawful.{IsLawful}
-use Rattle.mn_model.specs.Parts.{cell_count}
-use Rattle.mn_model.specs.declared.limits.TheConstants.{CELLS}
 use Rattle.mn_references.proofs.FairTokens.{rest_fair}
 use Rattle.mn_language.proofs.LawfulConstraints.{leaf_room}
 use Rattle.mn_constraints.proofs.nested.counted.Goals as goal

@@ -1,4 +1,4 @@
-use Rattle.std.proofs.Common.{rules, ◌≡◌, ◌++◌, ◌∷◌, [], length, drop, Option, Ok, sym, ap, ◌∙◌, subst, FitsSigned, w64}
+use Rattle.std.proofs.Common.{rules, ◌≡◌, ◌++◌, ◌∷◌, [], length, drop, Option, Ok, ap, ◌∙◌, subst, FitsSigned, w64}
 use Rattle.std.proofs.lemmas.Int.{to_z-of_z}
 use Rattle.std.proofs.lemmas.List.{drop-append-le}
 use Rattle.mn_cursor.specs.Progress.{rest}

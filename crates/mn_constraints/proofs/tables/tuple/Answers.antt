@@ -1,4 +1,3 @@
-use Rattle.std.proofs.Common.{drop, length}
 use Rattle.std.proofs.lemmas.Result.{err_from_is_err_and}
 use Rattle.mn_cursor.specs.Progress.{rest}
 use Rattle.mn_constraints.proofs.TupleSteps.{angle_stops, tuple_gives}

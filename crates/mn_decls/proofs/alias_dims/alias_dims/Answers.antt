@@ -1,10 +1,10 @@
 use Rattle.std.proofs.Common.{rules, ◌≡◌, ◌≤◌, ◌∷◌, ◌++◌, [], pos, Ok, refl, sym, ap, subst, ◌∙◌}
 use Rattle.std.proofs.lemmas.Result.{err_from_is_err_and}
 use Rattle.std.specs.List.{AllByRecursion}
+use Rattle.mn_model.proofs.Lists.{all_push}
 use Rattle.mn_cursor.specs.Progress.{rest}
 use Rattle.mn_cursor.proofs.Turning.{stops_same}
 use Rattle.mn_decls.specs.Variables.{alias_dims_at}
-use Rattle.mn_decls.proofs.Ranges.{all_dims}
 use Rattle.mn_decls.proofs.AliasSteps.{dims_from, dim_stops, dim_comma_stops, dim_goes_on, dim_ends}
 use Rattle.mn_decls.proofs.alias_dims.alias_dims.Goals as goal
 
@@ -42,5 +42,5 @@ loop-dims-preserved c =
     let made : c.push.new.self ≡ c.loop-dims.dims ++ c.in_ok-dim.dim ∷ [] = c.in_ok-push.ensures.ok in (
       ap (λ l. dims_from l (rest c.comma.new.self)) made ∙ on.0 ∙ c.loop-dims.invariant.0,
       search rules,
-      subst (AllByRecursion (λ d. 1 ≤ d)) (sym made) (all_dims c.loop-dims.dims c.in_ok-dim.dim c.loop-dims.invariant.2 c.in_ok-dim.ensures.least),
+      subst (AllByRecursion (λ d. 1 ≤ d)) (sym made) (all_push (λ d. 1 ≤ d) c.loop-dims.dims c.in_ok-dim.dim c.loop-dims.invariant.2 c.in_ok-dim.ensures.least),
     )

@@ -4,9 +4,11 @@ use Rattle.std.specs.List.{AllByRecursion}
 use Rattle.mn_grammar.specs.Gives.{Stops}
 use Rattle.mn_model.specs.Problem.{Problem, size_of_dims, variable_count}
 use Rattle.mn_model.specs.declared.limits.TheConstants.{VARIABLES}
+use Rattle.mn_model.proofs.Sizes.{size_of_dims-positive}
+use Rattle.mn_model.proofs.Lists.{all_push}
 use Rattle.mn_cursor.specs.Progress.{rest}
 use Rattle.mn_decls.specs.Variables.{dim_at, dims_list_at}
-use Rattle.mn_decls.proofs.Ranges.{size_more, all_dims, some_places}
+use Rattle.mn_decls.proofs.Ranges.{size_more}
 use Rattle.mn_cursor.proofs.Turning.{stops_same}
 use Rattle.mn_decls.proofs.VariableSteps.{dims_from, dim_stops, dim_comma_stops, dim_goes_on, dim_ends}
 use Rattle.mn_decls.proofs.dims.dims_list.Goals as goal
@@ -67,12 +69,12 @@ loop-shape-preserved c =
     (subst (λ (q : Problem). dim_at q c.loop-shape.shape (rest c.loop-shape.c) ≡ Ok (pos c.in_ok-dim.dim, rest c.dim.new.c)) same c.in_ok-dim.ensures.gives)
     (rest c.comma.new.self) (search rules) in
     let made : c.push.new.self ≡ c.loop-shape.shape ++ c.in_ok-dim.dim ∷ [] = c.in_ok-push.ensures.ok in
-    let shaped : AllByRecursion (λ d. 1 ≤ d) c.push.new.self = subst (AllByRecursion (λ d. 1 ≤ d)) (sym made) (all_dims c.loop-shape.shape c.in_ok-dim.dim c.loop-shape.invariant.2 c.in_ok-dim.ensures.least) in
+    let shaped : AllByRecursion (λ d. 1 ≤ d) c.push.new.self = subst (AllByRecursion (λ d. 1 ≤ d)) (sym made) (all_push (λ d. 1 ≤ d) c.loop-shape.shape c.in_ok-dim.dim c.loop-shape.invariant.2 c.in_ok-dim.ensures.least) in
     let room : variable_count c.args.c.now.problem.decls + size_of_dims c.loop-shape.shape * c.in_ok-dim.dim ≤ VARIABLES =
     subst (λ (q : Problem). variable_count q.decls + size_of_dims c.loop-shape.shape * c.in_ok-dim.dim ≤ VARIABLES) same c.in_ok-dim.ensures.room in (
       ap (λ l. dims_from c.args.c.now.problem l (rest c.comma.new.self)) made ∙ on.0 ∙ c.loop-shape.invariant.0,
       search rules,
       shaped,
-      some_places c.push.new.self shaped,
+      size_of_dims-positive c.push.new.self shaped,
       subst (λ n. variable_count c.args.c.now.problem.decls + n ≤ VARIABLES) (sym (ap size_of_dims made ∙ size_more c.loop-shape.shape c.in_ok-dim.dim)) room,
     )

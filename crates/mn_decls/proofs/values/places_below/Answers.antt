@@ -1,6 +1,7 @@
 use Rattle.std.proofs.Common.{rules, of_calls, int_le, int_lt}
 use Rattle.std.proofs.lemmas.Fn.{always_returns_same}
-use Rattle.mn_decls.proofs.Ranges.{filter_take, filter_drop, less_in_front, at_least, not_at_least}
+use Rattle.mn_model.proofs.Filtered.{filter_drop, filter_take}
+use Rattle.mn_model.proofs.Ordered.{at_least, less_in_front, not_at_least}
 use Rattle.mn_decls.proofs.values.places_below.Goals as goal
 
 pub returns-clause-below : goal.returns-clause-below

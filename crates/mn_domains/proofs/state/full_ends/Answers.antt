@@ -1,7 +1,8 @@
 use Rattle.std.proofs.Common.{◌^◌, ◌≤◌, arith}
 use Rattle.std.proofs.lemmas.List.{get_or_default}
+use Rattle.mn_model.proofs.Lists.{all_push}
 use Rattle.mn_domains.specs.declared.shape.Ends.{Ends}
-use Rattle.mn_domains.proofs.Full.{all_push, full_more}
+use Rattle.mn_domains.proofs.Full.{full_more}
 use Rattle.mn_domains.proofs.state.full_ends.Goals as goal
 
 pub loop-shape-preserved : goal.loop-shape-preserved

@@ -3,6 +3,7 @@ use Rattle.std.proofs.lemmas.Grind.{common_steps}
 use Rattle.mn_model.specs.declared.constraint.Con.TheFolds.{the_lemmas}
 use Rattle.std.proofs.lemmas.Bool.Decides.{Decides-eqb}
 use Rattle.std.proofs.lemmas.Int.{ints}
+use Rattle.std.proofs.lemmas.Bool.{false_from_ne_true}
 use Rattle.mn_model.specs.declared.constraint.Con.{Con}
 use Rattle.mn_model.specs.declared.constraint.Term.TheVariants.{Const}
 use Rattle.mn_meaning.specs.Families.{IsEntry, IsGreatest, IsLeast, distinct_count, quotient, sum_of, weighted_sum}
@@ -10,7 +11,7 @@ use Rattle.mn_meaning.specs.Meaning.{HoldsOver, values_at, value_of}
 use Rattle.mn_model.proofs.Children.{made_implied, made_negated, made_reified}
 use Rattle.mn_meaning.proofs.Fronts.{with_behind, with_two_behind}
 use Rattle.mn_meaning.proofs.Made.{each_holds, none_holds, each_on, first_fails, first_holds, implied_over, near_first, near_implied, near_negated, near_others, near_reified, reified_over, short_first, short_implied, short_negated, short_others, short_reified, some_on}
-use Rattle.mn_meaning.proofs.Told.{at_most_told, at_three, at_two, at_value, exactly_told, follows_told, found_to_be, none_follows, not_told, one_told, only_false, passed}
+use Rattle.mn_meaning.proofs.Told.{at_most_told, at_three, at_two, at_value, exactly_told, follows_told, found_to_be, none_follows, not_told, one_told, passed}
 use Rattle.mn_meaning.proofs.meaning.+meeting.Goals as goal
 use mir.Syntax.{w128}
 
@@ -77,7 +78,7 @@ meets-returns-in-Reify g t c =
 pub meets-returns-then-value_at-ne1 : goal.meets-returns-then-value_at-ne1
 meets-returns-then-value_at-ne1 g t c =
     let tells = (one_told c.value_at-in-Reifyimply.result (value_of (g.V.Values.values c.args.s.now) c.in-Reifyimply.r) (record { sfits = c.value_at-in-Reifyimply.type_inv }) c.value_at-in-Reifyimply.ensures) in
-    found_to_be c.args.lists.now (g.V.Values.values c.args.s.now) c.args.con.now _ (c.in-Reifyimply.is ∙ made_implied c.in-Reifyimply.part c.in-Reifyimply.r) (implied_over c.args.lists.now (g.V.Values.values c.args.s.now) c.in-Reifyimply.part c.in-Reifyimply.r (none_follows _ tells (only_false _ (λ e. c.if-value_at-ne1.true ((Decides-eqb _ _).0 e)))))
+    found_to_be c.args.lists.now (g.V.Values.values c.args.s.now) c.args.con.now _ (c.in-Reifyimply.is ∙ made_implied c.in-Reifyimply.part c.in-Reifyimply.r) (implied_over c.args.lists.now (g.V.Values.values c.args.s.now) c.in-Reifyimply.part c.in-Reifyimply.r (none_follows _ tells (false_from_ne_true _ (λ e. c.if-value_at-ne1.true ((Decides-eqb _ _).0 e)))))
 
 pub meets-returns-else-value_at-ne1 : goal.meets-returns-else-value_at-ne1
 meets-returns-else-value_at-ne1 g t c =

@@ -1,8 +1,6 @@
 use Rattle.std.proofs.Common.{sym, subst, ◌∙◌}
 use Rattle.mn_model.specs.Lawful.{HasNearConstants, IsNearTerm}
-use Rattle.mn_model.specs.Variable.{variable}
 use Rattle.mn_model.specs.declared.constraint.Con.TheVariants.{Eq}
-use Rattle.mn_model.specs.declared.constraint.Term.TheVariants.{Var}
 use Rattle.mn_model.proofs.Near.{near_exactly}
 use Rattle.mn_model.proofs.tests.reified.Goals as goal
 

@@ -1,4 +1,4 @@
-use Rattle.std.proofs.Common.{ℤ, pos, List, [], ◌∷◌, length, refl, ap, sym, subst, arith}
+use Rattle.std.proofs.Common.{pos, [], ◌∷◌, length, refl, ap, sym, subst, arith}
 use Rattle.std.proofs.lemmas.Int.{ints}
 use Rattle.std.specs.List.{AllByRecursion}
 use Rattle.mn_model.specs.Domain.{IsValue}

@@ -1,12 +1,13 @@
 use Rattle.std.proofs.Common.{◌≡◌, ◌*◌, ◌<◌, codes, ap, sym, ◌∙◌, arith}
 use Rattle.mn_model.specs.declared.constraint.Con.{size-Con}
 use Rattle.mn_model.specs.declared.constraint.Cons.{Cons, size-Cons}
+use Rattle.mn_model.proofs.Children.{first_below, others_below}
 use Rattle.mn_canonical.specs.Constraints.{constraint_text, children_texts}
 use Rattle.mn_canonical.specs.Lists.{with_commas}
 use Rattle.mn_canonical.specs.Names.{term_text}
 use Rattle.mn_printer.specs.Pages.{onto}
 use Rattle.mn_printer.proofs.Joining.{onto_nothing, onto_none}
-use Rattle.mn_printer.proofs.Made.{text_reified, text_implied, text_negated, one_child_more, children_with_commas, others_below, first_below, further_texts, gathered_is, tied_is}
+use Rattle.mn_printer.proofs.Made.{text_reified, text_implied, text_negated, one_child_more, children_with_commas, further_texts, gathered_is, tied_is}
 use Rattle.mn_printer.proofs.Separating.{on_ok, then_onto, thrice}
 use Rattle.mn_printer.proofs.constraints.+printing.Goals as goal
 

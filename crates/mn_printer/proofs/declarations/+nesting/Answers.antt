@@ -1,12 +1,13 @@
 use Rattle.std.proofs.Common.{◌≡◌, ◌+◌, ◌*◌, ◌<◌, ◌≤◌, ◌-◌, ◌/◌, ◌++◌, length, take, drop, get_or, codes, map, ap, sym, ◌∙◌, subst, arith}
 use Rattle.std.specs.List.{AllByRecursion, flat_map}
 use Rattle.mn_model.specs.Problem.{size_of_dims}
+use Rattle.mn_model.proofs.Sizes.{shaped-drop}
 use Rattle.mn_canonical.specs.Declarations.{nested_text}
 use Rattle.mn_canonical.specs.Lists.{repeated}
 use Rattle.mn_printer.specs.Pages.{onto}
 use Rattle.mn_printer.proofs.Joining.{onto_nothing}
 use Rattle.mn_printer.proofs.Nested.{nested_is}
-use Rattle.mn_printer.proofs.Ones.{nested_ones, shaped_behind, size_passed}
+use Rattle.mn_printer.proofs.Ones.{nested_ones, size_passed}
 use Rattle.mn_printer.proofs.Rows.{one_mapped_row_more, no_rows}
 use Rattle.mn_printer.proofs.Separating.{then_onto, twice, thrice}
 use Rattle.mn_printer.proofs.declarations.+nesting.Goals as goal
@@ -38,7 +39,7 @@ nested-rows-requires t c =
     let below : 2 * length c.split_at.result.1.now < t = omega (arith, at, c.split_at.ensures.back_len) in (
       below,
       (
-        subst (AllByRecursion (λ dim. 1 ≤ dim)) (sym behind) (shaped_behind ones c.args.dims.now c.requires.shaped),
+        subst (AllByRecursion (λ dim. 1 ≤ dim)) (sym behind) (shaped-drop ones c.args.dims.now c.requires.shaped),
         c.requires.sized ∙ ap size_of_dims c.leading_ones-ones.ensures.ones ∙ size_passed ones (drop ones c.args.dims.now) ∙ ap size_of_dims (sym behind),
       ),
     )

@@ -1,8 +1,10 @@
 use Rattle.std.proofs.Common.{◌≡◌, ◌+◌, ◌/◌, ◌≤◌, arith, length, drop, get_or, ap, sym, ◌∙◌}
+use Rattle.std.proofs.lemmas.List.{drop_all}
 use Rattle.mn_model.specs.Problem.{size_of_dims}
+use Rattle.mn_model.proofs.Sizes.{shaped-drop, size_of_dims-positive}
 use Rattle.mn_printer.specs.Pages.{onto}
 use Rattle.mn_printer.proofs.Joining.{onto_nothing}
-use Rattle.mn_printer.proofs.Sizes.{further_text, size_of_dims-positive, shaped-drop, dims-drop, without_first, one_index_more, shaped_at, drop_end}
+use Rattle.mn_printer.proofs.Sizes.{further_text, dims-drop, without_first, one_index_more, shaped_at}
 use Rattle.mn_printer.proofs.names.further_indices.Goals as goal
 
 pub nonzero_div-place : goal.nonzero_div-place
@@ -36,4 +38,4 @@ pub returns : goal.returns
 returns c =
     let dims = c.args.dims.now in
     let end : length dims ≤ c.loop-dim.dim-index = omega arith in
-    sym (onto_nothing _) ∙ ap (λ ds. onto c.loop-dim.page (further_text ds c.loop-dim.place)) (sym (drop_end dims c.loop-dim.dim-index end)) ∙ c.loop-dim.invariant.whole
+    sym (onto_nothing _) ∙ ap (λ ds. onto c.loop-dim.page (further_text ds c.loop-dim.place)) (sym (drop_all c.loop-dim.dim-index dims end)) ∙ c.loop-dim.invariant.whole

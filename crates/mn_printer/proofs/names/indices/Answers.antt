@@ -1,8 +1,9 @@
 use Rattle.std.proofs.Common.{◌≡◌, ℕ, ◌<◌, List, [], ◌∷◌, length, codes, refl, arith}
+use Rattle.mn_model.proofs.Sizes.{size_of_dims-positive}
 use Rattle.mn_sections.specs.Matrices.{indices_of}
 use Rattle.mn_canonical.specs.Names.{subscript_text}
 use Rattle.mn_printer.proofs.Joining.{onto_none}
-use Rattle.mn_printer.proofs.Sizes.{size_of_dims-positive, shaped_rest, subscript_is}
+use Rattle.mn_printer.proofs.Sizes.{shaped_rest, subscript_is}
 use Rattle.mn_printer.proofs.Separating.{then_onto, thrice}
 use Rattle.mn_printer.proofs.names.indices.Goals as goal
 

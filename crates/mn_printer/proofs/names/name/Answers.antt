@@ -1,7 +1,7 @@
 use Rattle.std.proofs.Common.{◌≡◌, arith, get_or, ◌∙◌, sym}
 use Rattle.std.proofs.lemmas.List.{get_or_default}
+use Rattle.mn_model.proofs.NameParts.{ascii_name}
 use Rattle.mn_printer.proofs.Joining.{page_steps, onto_nothing}
-use Rattle.mn_printer.proofs.NameParts.{ascii_name}
 use Rattle.mn_printer.proofs.names.name.Goals as goal
 
 pub loop-c-init : goal.loop-c-init

@@ -1,6 +1,7 @@
 use Rattle.std.proofs.Common.{◌≡◌, ◌+◌, ◌*◌, arith, drop, get_or, ap, sym, ◌∙◌}
 use Rattle.mn_model.specs.Problem.{size_of_dims}
-use Rattle.mn_printer.proofs.Sizes.{size_of_dims-positive, shaped-drop, dims-drop, part_of_size}
+use Rattle.mn_model.proofs.Sizes.{part_of_size, shaped-drop, size_of_dims-positive}
+use Rattle.mn_printer.proofs.Sizes.{dims-drop}
 use Rattle.mn_printer.proofs.names.size_of.Goals as goal
 
 pub overflow_mul-size : goal.overflow_mul-size

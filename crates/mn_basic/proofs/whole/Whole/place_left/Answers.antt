@@ -2,8 +2,9 @@ use Rattle.std.proofs.Common.{get_or, ◌∙◌, arith}
 use Rattle.std.proofs.lemmas.Option.{slice_get_within}
 use Rattle.mn_model.specs.Parts.{places}
 use Rattle.mn_model.specs.declared.constraint.Term.TheVariants.{Var}
+use Rattle.mn_model.proofs.Lists.{filled_length}
 use Rattle.mn_prop.proofs.Ready.{ready_named}
-use Rattle.mn_basic.proofs.Alone.{all_alone, always_open, filled_within, one_more_alone, placed_at}
+use Rattle.mn_basic.proofs.Alone.{all_alone, always_open, one_more_alone, placed_at}
 use Rattle.mn_basic.proofs.whole.Whole.place_left.Goals as goal
 
 pub loop-j-init : goal.loop-j-init
@@ -35,4 +36,4 @@ loop-j-preserved c =
 pub returns : goal.returns
 returns c =
     let con = c.args.self.now.con.now in
-    (filled_within con c.requires.filled, all_alone con c.args.self.now.terms.items c.loop-j.j 0 c.args.c.now.doms.sets c.args.self.now.placed (omega (arith, c.loop-j-test.false)) c.loop-j.invariant)
+    (filled_length (places con) c.requires.filled, all_alone con c.args.self.now.terms.items c.loop-j.j 0 c.args.c.now.doms.sets c.args.self.now.placed (omega (arith, c.loop-j-test.false)) c.loop-j.invariant)

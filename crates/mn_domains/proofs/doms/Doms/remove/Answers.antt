@@ -1,9 +1,10 @@
-use Rattle.std.proofs.Common.{w64, arith, refl}
+use Rattle.std.proofs.Common.{w64, arith, refl, length}
 use Rattle.std.proofs.lemmas.Int.{to_z-of_z}
+use Rattle.std.proofs.lemmas.Option.{slice_get_read}
 use Rattle.mn_model.specs.Variable.{number_of}
 use Rattle.mn_boxes.specs.Boxes.{set_of, variable_at}
 use Rattle.mn_domains.specs.Changes.{is_not}
-use Rattle.mn_domains.proofs.Emptying.{emptied_only, held_some, size_less, slice_get_here}
+use Rattle.mn_domains.proofs.Emptying.{emptied_only, held_some, size_less}
 use Rattle.mn_domains.proofs.Put.{PutAt, changed_put, kept_put}
 use Rattle.mn_domains.proofs.Standing.{known, stands_at}
 use Rattle.mn_domains.proofs.Unmarking.{inner_stays, unmarked_shape}
@@ -37,7 +38,7 @@ inner_bit-requires-clause-within c =
 pub unmark-requires-clause-here : goal.unmark-requires-clause-here
 unmark-requires-clause-here c =
     let st = stands_at c.self.inside.listed.items c.self.inside.shapes.items c.self.inside.current c.self.inside.saved.items c.args.self.now (number_of c.args.v) c.self.view_is c.self.invariant c.requires.within in
-    slice_get_here c.self.inside.current.ends.items c.number-i.result c.index.result.now (omega (arith, st.in_ends, c.number-i.ensures)) c.index.ensures
+    slice_get_read c.self.inside.current.ends.items (length c.self.inside.current.ends.items) c.number-i.result c.index.result.now refl (omega (arith, st.in_ends, c.number-i.ensures)) c.index.ensures
 
 pub unmark-requires-clause-some : goal.unmark-requires-clause-some
 unmark-requires-clause-some c =
@@ -85,7 +86,7 @@ without-rest-requires-clause-outer c =
 pub put-requires-clause-here : goal.put-requires-clause-here
 put-requires-clause-here c =
     let st = stands_at c.self.inside.listed.items c.self.inside.shapes.items c.self.inside.current c.self.inside.saved.items c.args.self.now (number_of c.args.v) c.self.view_is c.self.invariant c.requires.within in
-    slice_get_here c.self.inside.current.ends.items c.number-i.result c.index.result.now (omega (arith, st.in_ends, c.number-i.ensures)) c.index.ensures
+    slice_get_read c.self.inside.current.ends.items (length c.self.inside.current.ends.items) c.number-i.result c.index.result.now refl (omega (arith, st.in_ends, c.number-i.ensures)) c.index.ensures
 
 pub put-requires-clause-less : goal.put-requires-clause-less
 put-requires-clause-less c =

@@ -1,7 +1,8 @@
-use Rattle.std.proofs.Common.{int_le, w64, arith, refl}
+use Rattle.std.proofs.Common.{int_le, w64, arith, refl, length}
 use Rattle.std.proofs.lemmas.Int.{ints, to_z-of_z}
+use Rattle.std.proofs.lemmas.Option.{slice_get_read}
 use Rattle.mn_model.specs.Variable.{number_of}
-use Rattle.mn_domains.proofs.Emptying.{emptied_from, size_less, slice_get_here}
+use Rattle.mn_domains.proofs.Emptying.{emptied_from, size_less}
 use Rattle.mn_domains.proofs.Put.{PutAt, changed_put, kept_put}
 use Rattle.mn_domains.proofs.Standing.{known, stands_at}
 use Rattle.mn_domains.proofs.doms.Doms.set_lo.Goals as goal
@@ -32,7 +33,7 @@ cut_low-cut-requires-clause-held c =
 pub put-requires-clause-here : goal.put-requires-clause-here
 put-requires-clause-here c =
     let st = stands_at c.self.inside.listed.items c.self.inside.shapes.items c.self.inside.current c.self.inside.saved.items c.args.self.now (number_of c.args.v) c.self.view_is c.self.invariant c.requires in
-    slice_get_here c.self.inside.current.ends.items c.number-i.result c.index-ends.result.now (omega (arith, st.in_ends, c.number-i.ensures)) c.index-ends.ensures
+    slice_get_read c.self.inside.current.ends.items (length c.self.inside.current.ends.items) c.number-i.result c.index-ends.result.now refl (omega (arith, st.in_ends, c.number-i.ensures)) c.index-ends.ensures
 
 pub put-requires-clause-less : goal.put-requires-clause-less
 put-requires-clause-less c =

@@ -1,6 +1,6 @@
 use Rattle.std.proofs.Common.{◌≡◌, ◌+◌, ◌<◌, ◌≤◌, ap, subst, sym, ◌∙◌, arith, refl, length, Some, slice_get}
 use Rattle.std.proofs.lemmas.Option.{slice_get_read}
-use Rattle.mn_model.proofs.Kept.{AllByRecursion-at, numbered_within}
+use Rattle.mn_model.proofs.Kept.{numbered_within}
 use Rattle.mn_model.proofs.Looking.{declared_at, aliased_at, undeclared, unaliased, declared_is, aliased_is, not_declared}
 use Rattle.mn_model.proofs.Looking.{some_less, some_known}
 use Rattle.mn_model.proofs.Variables.{length-domains_of}
@@ -9,6 +9,7 @@ use Rattle.mn_model.specs.Problem.{Problem, aliased_as, domains_of, size_of_dims
 use Rattle.mn_model.specs.Variable.{number_of}
 use Rattle.std.specs.Option.{IfSome}
 use Rattle.mn_model.proofs.instance.Instance.var.Goals as goal
+use Rattle.mn_model.proofs.Lists.{all_at}
 
 pub returns-in_err-place-clause-place : goal.returns-in_err-place-clause-place
 returns-in_err-place-clause-place c =
@@ -26,7 +27,7 @@ within : (c : goal.After-index) → number_of c.index.result.now.first + size_of
 within c = omega (arith, numbered_within 0 c.self.inside.decls.items c.in-Declared.place c.index.result.now c.self.invariant.lawful.numbered (held c))
 
 pub declared_variable-requires-clause-shaped : goal.declared_variable-requires-clause-shaped
-declared_variable-requires-clause-shaped c = (AllByRecursion-at IsLawfulDecl c.self.inside.decls.items c.in-Declared.place c.index.result.now c.self.invariant.lawful.decls (held c)).shaped
+declared_variable-requires-clause-shaped c = (all_at IsLawfulDecl c.self.inside.decls.items c.in-Declared.place c.index.result.now c.self.invariant.lawful.decls (held c)).shaped
 
 pub declared_variable-requires-clause-few : goal.declared_variable-requires-clause-few
 declared_variable-requires-clause-few c = omega (arith, within c, c.self.invariant.lawful.few_variables)
@@ -38,7 +39,7 @@ held-alias : (c : goal.After-index-in-Aliased) → slice_get c.self.inside.alias
 held-alias c = slice_get_read c.self.inside.aliases.items (length c.self.inside.aliases.items) c.in-Aliased.place c.index-in-Aliased.result.now refl (aliased_at _ c.self.inside.names.entries c.self.inside.lists.entries c.self.inside.owners.items c.self.inside.cells c.self.invariant c.args.name.now c.in-Aliased.place (ap Some (sym c.in-Aliased.is) ∙ c.in_ok-place.ensures.value)).0 c.index-in-Aliased.ensures
 
 lawful-alias : (c : goal.After-index-in-Aliased) → IsLawfulAlias (domains_of c.self.inside.decls.items) c.index-in-Aliased.result.now
-lawful-alias c = AllByRecursion-at (IsLawfulAlias (domains_of c.self.inside.decls.items)) c.self.inside.aliases.items c.in-Aliased.place c.index-in-Aliased.result.now c.self.invariant.lawful.aliases (held-alias c)
+lawful-alias c = all_at (IsLawfulAlias (domains_of c.self.inside.decls.items)) c.self.inside.aliases.items c.in-Aliased.place c.index-in-Aliased.result.now c.self.invariant.lawful.aliases (held-alias c)
 
 pub aliased_variable-requires-clause-shaped : goal.aliased_variable-requires-clause-shaped
 aliased_variable-requires-clause-shaped c = (lawful-alias c).shaped
@@ -70,6 +71,6 @@ returns-in-Aliased-clause-place c =
 pub returns-in-Aliased-clause-among : goal.returns-in-Aliased-clause-among
 returns-in-Aliased-clause-among c =
     let is : slice_get c.self.inside.aliases.items c.in-Aliased.place ≡ Some c.index-in-Aliased.result.now = slice_get_read c.self.inside.aliases.items (length c.self.inside.aliases.items) c.in-Aliased.place c.index-in-Aliased.result.now refl (aliased_at _ c.self.inside.names.entries c.self.inside.lists.entries c.self.inside.owners.items c.self.inside.cells c.self.invariant c.args.name.now c.in-Aliased.place (ap Some (sym c.in-Aliased.is) ∙ c.in_ok-place.ensures.value)).0 c.index-in-Aliased.ensures in
-    let lawful = AllByRecursion-at (IsLawfulAlias (domains_of c.self.inside.decls.items)) c.self.inside.aliases.items c.in-Aliased.place c.index-in-Aliased.result.now c.self.invariant.lawful.aliases is in
+    let lawful = all_at (IsLawfulAlias (domains_of c.self.inside.decls.items)) c.self.inside.aliases.items c.in-Aliased.place c.index-in-Aliased.result.now c.self.invariant.lawful.aliases is in
     subst (λ (p : Problem). IfSome c.aliased_variable.result (λ v. number_of v < variable_count p.decls)) c.self.view_is
     (some_known c.aliased_variable.result c.index-in-Aliased.result.now c.args.subs.now (domains_of c.self.inside.decls.items) (variable_count c.self.inside.decls.items) (length-domains_of c.self.inside.decls.items) c.aliased_variable.ensures.place lawful.known)

@@ -2,7 +2,6 @@ use Rattle.std.proofs.Common.{FitsSigned, pos, ℤ, ◌+ℤ◌, ◌≤ℤ◌, �
 use Rattle.std.proofs.lemmas.Int.{ints, to_z-of_z}
 use Rattle.mn_prop.proofs.Trying.{first_tried, next_tried}
 use Rattle.mn_prop.proofs.context.Ctx.next_turned.Goals as goal
-use Rattle.mn_prop.proofs.context.Ctx.next_turned.Goals.{In-loop-v}
 
 pub loop-v-init : goal.loop-v-init
 loop-v-init c =
