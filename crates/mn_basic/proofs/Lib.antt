@@ -1,6 +1,7 @@
 pub mod Alone
 pub mod Dropped
 pub mod Ended
+pub mod Lost
 pub mod Numbered
 pub mod Ordered
 pub mod Paired

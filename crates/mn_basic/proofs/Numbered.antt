@@ -74,7 +74,7 @@ one_meets (NotBetween lo hi) x lists s m = m
 one_meets (Within ends) x lists s m = m
 
 -- a value is supported exactly where it is one of the numbers
-supported_one : (n : Numbers) (x : Term) (lists : List Tuples) (a : ℤ) (box : List (List ℤ)) → Supported lists (literal_of n x) 0 a box → IsOneOf n a
+pub supported_one : (n : Numbers) (x : Term) (lists : List Tuples) (a : ℤ) (box : List (List ℤ)) → Supported lists (literal_of n x) 0 a box → IsOneOf n a
 supported_one n x lists a box supported = subst (IsOneOf n) choice.given (meets_one n x lists choice.values choice.meets)
   where
     choice : ChoiceWith lists (literal_of n x) 0 a box
@@ -88,7 +88,7 @@ one_supported n x lists a box has one = subst (λ l. SupportedAt l lists (litera
   meets = one_meets n x lists (a ∷ []) one;
 })
 
-literal_stands : (n : Numbers) (x : Term) → StandsAt (literal_of n x) 0 x
+pub literal_stands : (n : Numbers) (x : Term) → StandsAt (literal_of n x) 0 x
 literal_stands n x = ap (λ ts. slice_get ts 0) (literal_places n x)
 
 literal_closed : (n : Numbers) (x : Term) (lists : List Tuples) (vars : List Variable) (box : List (List ℤ)) → EachAsked vars x (IsOneOf n) box → LeafClosed vars lists (literal_of n x) box

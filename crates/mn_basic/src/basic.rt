@@ -1,6 +1,7 @@
 //! What narrows one constraint.
 ghost use Rattle.std.specs.Prelude.{◌≡◌, IfOk};
 ghost use Rattle.mn_closure.specs.Closed.{LeafClosed};
+ghost use Rattle.mn_prop.specs.Losses.{Loses, Unsupported};
 ghost use Rattle.mn_prop.specs.Passes.{IsReady, IsStep};
 ghost use Rattle.mn_basic.specs.Basics.{constraint_of, lists_of};
 ghost use Rattle.mn_basic.specs.Literals.{literal_of};
@@ -77,7 +78,8 @@ impl Basic<'_> {
     // Takes values that aren't supported, or fails.
     fn narrow(&self, c: &mut Ctx) -> Result<(), Fail>
         requires { IsReady c.old.doms.vars (lists_of self.now) (constraint_of self.now) }
-        ensures { IsStep (LeafClosed c.old.doms.vars (lists_of self.now) (constraint_of self.now)) c.old.doms c.new.doms result }
+        ensures step { IsStep (LeafClosed c.old.doms.vars (lists_of self.now) (constraint_of self.now)) c.old.doms c.new.doms result }
+        ensures loses { Loses (Unsupported (lists_of self.now) (constraint_of self.now)) c.old.doms.sets c.new.doms.sets }
     {
         match self {
             Basic::Literal(l) => l.narrow(c),

@@ -1,6 +1,8 @@
 //! Narrowing of two places that differ.
 ghost use Rattle.mn_prop.specs.Contexts.{IsNamed};
+ghost use Rattle.mn_prop.specs.Losses.{Loses};
 ghost use Rattle.mn_prop.specs.Passes.{IsStep};
+ghost use Rattle.mn_basic.specs.Losses.{SameAt, SameAtEither};
 ghost use Rattle.mn_basic.specs.Pairs.{IsApart, SomeAt};
 
 use crate::literal::drop_value;
@@ -11,7 +13,8 @@ use mn_prop::{Ctx, Fail};
 pub(crate) fn keep_apart(c: &mut Ctx, x: Term, y: Term) -> Result<(), Fail>
     requires first { IsNamed c.old.doms.sets x }
     requires second { IsNamed c.old.doms.sets y }
-    ensures { IsStep (IsApart c.old.doms.vars x y) c.old.doms c.new.doms result }
+    ensures step { IsStep (IsApart c.old.doms.vars x y) c.old.doms c.new.doms result }
+    ensures loses { Loses (SameAt x y) c.old.doms.sets c.new.doms.sets }
 {
     c.lawful();
     if !c.is_single(x) {
@@ -25,7 +28,8 @@ pub(crate) fn keep_apart(c: &mut Ctx, x: Term, y: Term) -> Result<(), Fail>
 pub(crate) fn keep_both_apart(c: &mut Ctx, x: Term, y: Term) -> Result<(), Fail>
     requires first { IsNamed c.old.doms.sets x }
     requires second { IsNamed c.old.doms.sets y }
-    ensures { IsStep (λ box. IsApart c.old.doms.vars x y box × IsApart c.old.doms.vars y x box) c.old.doms c.new.doms result }
+    ensures step { IsStep (λ box. IsApart c.old.doms.vars x y box × IsApart c.old.doms.vars y x box) c.old.doms c.new.doms result }
+    ensures loses { Loses (SameAtEither x y) c.old.doms.sets c.new.doms.sets }
 {
     c.lawful();
     keep_apart(c, x, y)?;

@@ -29,4 +29,5 @@ pub use literal::Literal;
 pub use numbers::Numbers;
 pub use pair::Pair;
 pub use relation::Relation;
+pub use std::alloc::AllocError as NoMemory;
 pub use whole::Whole;

@@ -4,8 +4,10 @@ ghost use Rattle.std.specs.Prelude.{◌≡◌, ◌≢◌, IfOk};
 ghost use Rattle.mn_model.specs.contracts.constraint.Con as con;
 ghost use Rattle.mn_closure.specs.Closed.{LeafClosed};
 ghost use Rattle.mn_prop.specs.Contexts.{IsNamed};
+ghost use Rattle.mn_prop.specs.Losses.{Loses, Unsupported};
 ghost use Rattle.mn_prop.specs.Passes.{IsReady, IsStep};
 ghost use Rattle.mn_basic.specs.Literals.{EachAsked, literal_of};
+ghost use Rattle.mn_basic.specs.Losses.{ThatAt};
 ghost use Rattle.mn_basic.specs.Narrowing.{Narrows};
 
 use crate::numbers::Numbers;
@@ -18,7 +20,8 @@ use std::alloc::{AllocError, Global};
 /// Takes `a` out of the place, if it may go.
 pub(crate) fn drop_value(c: &mut Ctx, t: Term, a: i64) -> Result<(), Fail>
     requires { IsNamed c.old.doms.sets t }
-    ensures { IsStep (EachAsked c.old.doms.vars t (λ b. b ≢ a)) c.old.doms c.new.doms result }
+    ensures step { IsStep (EachAsked c.old.doms.vars t (λ b. b ≢ a)) c.old.doms c.new.doms result }
+    ensures loses { Loses (ThatAt t a) c.old.doms.sets c.new.doms.sets }
 {
     c.lawful();
     if !c.may_remove(t, a) {
@@ -56,7 +59,8 @@ impl<'a> Literal<'a> {
     /// Takes values that aren't supported, or fails. Values at the ends go in one change.
     pub(crate) fn narrow(&self, c: &mut Ctx) -> Result<(), Fail>
         requires { IsReady c.old.doms.vars self.now.whole.lists.now self.now.whole.con.now }
-        ensures { IsStep (LeafClosed c.old.doms.vars self.now.whole.lists.now self.now.whole.con.now) c.old.doms c.new.doms result }
+        ensures step { IsStep (LeafClosed c.old.doms.vars self.now.whole.lists.now self.now.whole.con.now) c.old.doms c.new.doms result }
+        ensures loses { Loses (Unsupported self.now.whole.lists.now self.now.whole.con.now) c.old.doms.sets c.new.doms.sets }
     {
         c.lawful();
         match &self.numbers {
@@ -73,7 +77,8 @@ impl<'a> Literal<'a> {
     // Cuts the place at its ends, and then tests each value that it has left.
     fn narrow_each(&self, c: &mut Ctx) -> Result<(), Fail>
         requires { IsReady c.old.doms.vars self.now.whole.lists.now self.now.whole.con.now }
-        ensures { IsStep (LeafClosed c.old.doms.vars self.now.whole.lists.now self.now.whole.con.now) c.old.doms c.new.doms result }
+        ensures step { IsStep (LeafClosed c.old.doms.vars self.now.whole.lists.now self.now.whole.con.now) c.old.doms c.new.doms result }
+        ensures loses { Loses (Unsupported self.now.whole.lists.now self.now.whole.con.now) c.old.doms.sets c.new.doms.sets }
     {
         c.lawful();
         self.cut_ends(c)?;
@@ -84,7 +89,8 @@ impl<'a> Literal<'a> {
     // Cuts the place to what reaches from the least to the greatest value that it may have.
     fn cut_ends(&self, c: &mut Ctx) -> Result<(), Fail>
         requires { IsReady c.old.doms.vars self.now.whole.lists.now self.now.whole.con.now }
-        ensures { Narrows (LeafClosed c.old.doms.vars self.now.whole.lists.now self.now.whole.con.now) c.old.doms c.new.doms result }
+        ensures step { Narrows (LeafClosed c.old.doms.vars self.now.whole.lists.now self.now.whole.con.now) c.old.doms c.new.doms result }
+        ensures loses { Loses (Unsupported self.now.whole.lists.now self.now.whole.con.now) c.old.doms.sets c.new.doms.sets }
     {
         c.lawful();
         let own = Span::of(c.lo(self.x), c.hi(self.x));

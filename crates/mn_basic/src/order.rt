@@ -1,7 +1,9 @@
 //! Narrowing of one place by another, in order of their values.
 ghost use Rattle.std.specs.Prelude.{◌≡◌, ◌↔◌, ◌+ℤ◌, ◌-ℤ◌, IsTrue};
 ghost use Rattle.mn_prop.specs.Contexts.{IsNamed};
+ghost use Rattle.mn_prop.specs.Losses.{Loses};
 ghost use Rattle.mn_prop.specs.Passes.{IsStep};
+ghost use Rattle.mn_basic.specs.Losses.{OutOfOrder};
 ghost use Rattle.mn_basic.specs.Pairs.{IsOrdered};
 
 use mn_model::Term;
@@ -30,7 +32,8 @@ fn is_same(x: Term, y: Term) -> bool
 pub(crate) fn put_in_order(c: &mut Ctx, x: Term, y: Term, k: i64) -> Result<(), Fail>
     requires first { IsNamed c.old.doms.sets x }
     requires second { IsNamed c.old.doms.sets y }
-    ensures { IsStep (IsOrdered x y k) c.old.doms c.new.doms result }
+    ensures step { IsStep (IsOrdered x y k) c.old.doms c.new.doms result }
+    ensures loses { Loses (OutOfOrder x y k) c.old.doms.sets c.new.doms.sets }
 {
     c.lawful();
     if is_same(x, y) && k < 0 {

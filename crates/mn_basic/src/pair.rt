@@ -1,6 +1,7 @@
 //! Constraints of two places.
 ghost use Rattle.std.specs.Prelude.{◌≡◌};
 ghost use Rattle.mn_closure.specs.Closed.{LeafClosed};
+ghost use Rattle.mn_prop.specs.Losses.{Loses, Unsupported};
 ghost use Rattle.mn_prop.specs.Passes.{IsReady, IsStep};
 ghost use Rattle.mn_basic.specs.Pairs.{pair_of};
 
@@ -39,7 +40,8 @@ impl<'a> Pair<'a> {
     /// Takes values that aren't supported, or fails.
     pub(crate) fn narrow(&self, c: &mut Ctx) -> Result<(), Fail>
         requires { IsReady c.old.doms.vars self.now.lists.now (pair_of self.now.relation self.now.x self.now.y) }
-        ensures { IsStep (LeafClosed c.old.doms.vars self.now.lists.now (pair_of self.now.relation self.now.x self.now.y)) c.old.doms c.new.doms result }
+        ensures step { IsStep (LeafClosed c.old.doms.vars self.now.lists.now (pair_of self.now.relation self.now.x self.now.y)) c.old.doms c.new.doms result }
+        ensures loses { Loses (Unsupported self.now.lists.now (pair_of self.now.relation self.now.x self.now.y)) c.old.doms.sets c.new.doms.sets }
     {
         c.lawful();
         match self.relation {

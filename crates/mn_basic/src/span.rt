@@ -2,6 +2,7 @@
 ghost use Rattle.std.specs.Prelude.{◌≡◌, ◌≤ℤ◌, ◌⊎◌, ℤ, neg_ℤ, pos};
 ghost use Rattle.std.proofs.Common.{nat_abs};
 ghost use Rattle.mn_prop.specs.Contexts.{IsNamed};
+ghost use Rattle.mn_prop.specs.Losses.{Loses};
 ghost use Rattle.mn_prop.specs.Passes.{IsStep};
 
 use crate::relation::Relation;
@@ -53,6 +54,7 @@ pub(crate) struct Span {
 }
 
 impl Span {
+    ghost use Rattle.mn_basic.specs.Losses.{OutOf};
     ghost use Rattle.mn_basic.specs.Narrowing.{AllIn, IsIn, IsSmall};
     ghost use Rattle.mn_basic.specs.Pairs.{IsTied, Related};
 
@@ -196,7 +198,8 @@ impl Span {
     /// Keeps the values of the place that are in the span.
     pub(crate) fn keep(self, c: &mut Ctx, t: Term) -> Result<(), Fail>
         requires { IsNamed c.old.doms.sets t }
-        ensures { IsStep (AllIn self t) c.old.doms c.new.doms result }
+        ensures step { IsStep (AllIn self t) c.old.doms c.new.doms result }
+        ensures loses { Loses (OutOf self t) c.old.doms.sets c.new.doms.sets }
     {
         c.lawful();
         cut_lo(c, t, self.lo)?;

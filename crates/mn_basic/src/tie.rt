@@ -1,5 +1,6 @@
 //! Narrowing of two places one of which tells the other: first by their ends, then value by value.
 ghost use Rattle.mn_closure.specs.Closed.{LeafClosed};
+ghost use Rattle.mn_prop.specs.Losses.{Loses, Unsupported};
 ghost use Rattle.mn_prop.specs.Passes.{IsReady, IsStep};
 ghost use Rattle.mn_basic.specs.Narrowing.{Narrows};
 ghost use Rattle.mn_basic.specs.Pairs.{IsTied, pair_of};
@@ -12,7 +13,8 @@ use mn_prop::{Ctx, Fail, sweep};
 fn cut_first(p: &Pair, c: &mut Ctx) -> Result<(), Fail>
     requires tied { IsTied p.now.relation }
     requires ready { IsReady c.old.doms.vars p.now.lists.now (pair_of p.now.relation p.now.x p.now.y) }
-    ensures { Narrows (LeafClosed c.old.doms.vars p.now.lists.now (pair_of p.now.relation p.now.x p.now.y)) c.old.doms c.new.doms result }
+    ensures step { Narrows (LeafClosed c.old.doms.vars p.now.lists.now (pair_of p.now.relation p.now.x p.now.y)) c.old.doms c.new.doms result }
+    ensures loses { Loses (Unsupported p.now.lists.now (pair_of p.now.relation p.now.x p.now.y)) c.old.doms.sets c.new.doms.sets }
 {
     c.lawful();
     let other = Span::of(c.lo(p.y), c.hi(p.y));
@@ -23,7 +25,8 @@ fn cut_first(p: &Pair, c: &mut Ctx) -> Result<(), Fail>
 fn cut_second(p: &Pair, c: &mut Ctx) -> Result<(), Fail>
     requires tied { IsTied p.now.relation }
     requires ready { IsReady c.old.doms.vars p.now.lists.now (pair_of p.now.relation p.now.x p.now.y) }
-    ensures { Narrows (LeafClosed c.old.doms.vars p.now.lists.now (pair_of p.now.relation p.now.x p.now.y)) c.old.doms c.new.doms result }
+    ensures step { Narrows (LeafClosed c.old.doms.vars p.now.lists.now (pair_of p.now.relation p.now.x p.now.y)) c.old.doms c.new.doms result }
+    ensures loses { Loses (Unsupported p.now.lists.now (pair_of p.now.relation p.now.x p.now.y)) c.old.doms.sets c.new.doms.sets }
 {
     c.lawful();
     let other = Span::of(c.lo(p.x), c.hi(p.x));
@@ -35,7 +38,8 @@ fn cut_second(p: &Pair, c: &mut Ctx) -> Result<(), Fail>
 fn narrow_second(p: &Pair, c: &mut Ctx) -> Result<(), Fail>
     requires tied { IsTied p.now.relation }
     requires ready { IsReady c.old.doms.vars p.now.lists.now (pair_of p.now.relation p.now.x p.now.y) }
-    ensures { IsStep (LeafClosed c.old.doms.vars p.now.lists.now (pair_of p.now.relation p.now.x p.now.y)) c.old.doms c.new.doms result }
+    ensures step { IsStep (LeafClosed c.old.doms.vars p.now.lists.now (pair_of p.now.relation p.now.x p.now.y)) c.old.doms c.new.doms result }
+    ensures loses { Loses (Unsupported p.now.lists.now (pair_of p.now.relation p.now.x p.now.y)) c.old.doms.sets c.new.doms.sets }
 {
     c.lawful();
     cut_second(p, c)?;
@@ -47,7 +51,8 @@ fn narrow_second(p: &Pair, c: &mut Ctx) -> Result<(), Fail>
 pub(crate) fn narrow_tied(p: &Pair, c: &mut Ctx) -> Result<(), Fail>
     requires tied { IsTied p.now.relation }
     requires ready { IsReady c.old.doms.vars p.now.lists.now (pair_of p.now.relation p.now.x p.now.y) }
-    ensures { IsStep (LeafClosed c.old.doms.vars p.now.lists.now (pair_of p.now.relation p.now.x p.now.y)) c.old.doms c.new.doms result }
+    ensures step { IsStep (LeafClosed c.old.doms.vars p.now.lists.now (pair_of p.now.relation p.now.x p.now.y)) c.old.doms c.new.doms result }
+    ensures loses { Loses (Unsupported p.now.lists.now (pair_of p.now.relation p.now.x p.now.y)) c.old.doms.sets c.new.doms.sets }
 {
     c.lawful();
     cut_first(p, c)?;

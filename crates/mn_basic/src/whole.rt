@@ -3,6 +3,7 @@ ghost use Rattle.std.specs.Prelude.{◌≡◌, [], IfOk, false, true};
 ghost use Rattle.mn_model.specs.Parts.{places};
 ghost use Rattle.mn_closure.specs.Closed.{LeafClosed};
 ghost use Rattle.mn_closure.specs.Supports.{OtherOpen};
+ghost use Rattle.mn_prop.specs.Losses.{Loses, Unsupported};
 ghost use Rattle.mn_prop.specs.Passes.{IsReady, IsStep};
 ghost use Rattle.mn_basic.specs.Trials.{IsLeft, OthersAlone, is_pair};
 
@@ -45,7 +46,8 @@ impl<'a> Whole<'a> {
     /// Takes values that aren't supported, or fails.
     pub(crate) fn narrow(&self, c: &mut Ctx) -> Result<(), Fail>
         requires { IsReady c.old.doms.vars self.now.lists.now self.now.con.now }
-        ensures { IsStep (LeafClosed c.old.doms.vars self.now.lists.now self.now.con.now) c.old.doms c.new.doms result }
+        ensures step { IsStep (LeafClosed c.old.doms.vars self.now.lists.now self.now.con.now) c.old.doms c.new.doms result }
+        ensures loses { Loses (Unsupported self.now.lists.now self.now.con.now) c.old.doms.sets c.new.doms.sets }
     {
         c.lawful();
         if !self.bare() {

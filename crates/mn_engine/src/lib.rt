@@ -13,3 +13,5 @@ mod rounds;
 mod tests;
 
 pub use engine::{Engine, Failed};
+pub use mn_prop::Make;
+pub use std::alloc::AllocError as NoMemory;

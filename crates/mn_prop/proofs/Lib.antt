@@ -2,6 +2,7 @@ pub mod Bounding
 pub mod Changing
 pub mod Counting
 pub mod Going
+pub mod Losing
 pub mod PlaceLemmas
 pub mod Ready
 pub mod Stepping

@@ -79,7 +79,7 @@ inside_through one two = record { within = λ v a has. two.within v a (one.withi
 -- ---- changes
 
 -- the sets that pass a test at a place are inside the old ones, and around every box that passes it there
-kept_inside : (p : ℤ → Bool) (t : Term) (sets : List (List ℤ)) → Inside (kept_at p t sets) sets
+pub kept_inside : (p : ℤ → Bool) (t : Term) (sets : List (List ℤ)) → Inside (kept_at p t sets) sets
 kept_inside p (Var v) sets = record { within = set_inside sets (number_of v) (filter p (set_of sets (number_of v))) (λ a has. (has_filter p (set_of sets (number_of v)) a has).has) }
 kept_inside p (Const k) sets = inside_itself sets
 kept_inside p (Not v) sets = record { within = set_inside sets (number_of v) (filter (λ b. p (pos 1 -ℤ b)) (set_of sets (number_of v))) (λ a has. (has_filter (λ b. p (pos 1 -ℤ b)) (set_of sets (number_of v)) a has).has) }

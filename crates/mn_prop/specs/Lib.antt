@@ -1,3 +1,4 @@
 pub mod Contexts
+pub mod Losses
 pub mod Passes
 pub mod Sweeps

@@ -47,8 +47,7 @@ AtLeastAt t bound box = (a : ℤ) → PlaceHas box t a → bound ≤ℤ a
 abbrev pub AtMostAt : Term → ℤ → List (List ℤ) → Type 0
 AtMostAt t bound box = (a : ℤ) → PlaceHas box t a → a ≤ℤ bound
 
--- what a constraint keeps beside variables and tuple lists, so that it can be propagated: every lawful one does, and its
--- negation
+-- what a constraint keeps beside variables and tuple lists, so that it can be propagated: every lawful one does
 pub record IsReady (vars : List Variable) (lists : List Tuples) (c : Con) : Type 0 where
   pub suits : Suits vars c
   pub meant : IsMeant lists c

@@ -1,5 +1,6 @@
 ghost use Rattle.std.specs.Prelude.{◌≡◌, ◌≤ℤ◌};
 ghost use Rattle.mn_prop.specs.Contexts.{IsNamed};
+ghost use Rattle.mn_prop.specs.Losses.{LessAt, Loses, MoreAt};
 ghost use Rattle.mn_prop.specs.Passes.{AtLeastAt, AtMostAt, IsStep};
 
 use crate::context::{Ctx, Fail};
@@ -17,7 +18,8 @@ fn narrowed(bound: i128, lo: i64, hi: i64) -> i64
 /// Takes the values of the place that are less than `bound`.
 pub fn cut_lo(c: &mut Ctx, t: Term, bound: i128) -> Result<(), Fail>
     requires { IsNamed c.old.doms.sets t }
-    ensures { IsStep (AtLeastAt t bound) c.old.doms c.new.doms result }
+    ensures step { IsStep (AtLeastAt t bound) c.old.doms c.new.doms result }
+    ensures loses { Loses (LessAt t bound) c.old.doms.sets c.new.doms.sets }
 {
     c.lawful();
     let (lo, hi) = (c.lo(t), c.hi(t));
@@ -33,7 +35,8 @@ pub fn cut_lo(c: &mut Ctx, t: Term, bound: i128) -> Result<(), Fail>
 /// Takes the values of the place that are greater than `bound`.
 pub fn cut_hi(c: &mut Ctx, t: Term, bound: i128) -> Result<(), Fail>
     requires { IsNamed c.old.doms.sets t }
-    ensures { IsStep (AtMostAt t bound) c.old.doms c.new.doms result }
+    ensures step { IsStep (AtMostAt t bound) c.old.doms c.new.doms result }
+    ensures loses { Loses (MoreAt t bound) c.old.doms.sets c.new.doms.sets }
 {
     c.lawful();
     let (lo, hi) = (c.lo(t), c.hi(t));

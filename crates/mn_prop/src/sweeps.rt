@@ -5,6 +5,7 @@ ghost use Rattle.mn_boxes.specs.Places.{PlaceHas, is_place_bounded};
 ghost use Rattle.mn_closure.specs.Closed.{LeafClosed};
 ghost use Rattle.mn_closure.specs.Supports.{StandsAt};
 ghost use Rattle.mn_prop.specs.Contexts.{IsNamed};
+ghost use Rattle.mn_prop.specs.Losses.{Loses, Unsupported};
 ghost use Rattle.mn_prop.specs.Passes.{IsReady, IsStep};
 ghost use Rattle.mn_prop.specs.Sweeps.{AllSupported, AsksEach, AsksEnds, EndsAlone, GreatestSupported, LeastSupported, PlaceClosed, ValueSupported};
 
@@ -16,7 +17,8 @@ use mn_model::Term;
 fn raise<L: Leaf>(leaf: &L, c: &mut Ctx, i: usize, t: Term) -> Result<(), Fail>
     requires ready { IsReady c.old.doms.vars (L.lists leaf.now) (L.con leaf.now) }
     requires stands { StandsAt (L.con leaf.now) i t }
-    ensures { IsStep (LeastSupported (L.lists leaf.now) (L.con leaf.now) i t) c.old.doms c.new.doms result }
+    ensures step { IsStep (LeastSupported (L.lists leaf.now) (L.con leaf.now) i t) c.old.doms c.new.doms result }
+    ensures loses { Loses (Unsupported (L.lists leaf.now) (L.con leaf.now)) c.old.doms.sets c.new.doms.sets }
 {
     loop {
         c.lawful();
@@ -32,7 +34,8 @@ fn raise<L: Leaf>(leaf: &L, c: &mut Ctx, i: usize, t: Term) -> Result<(), Fail>
 fn lower<L: Leaf>(leaf: &L, c: &mut Ctx, i: usize, t: Term) -> Result<(), Fail>
     requires ready { IsReady c.old.doms.vars (L.lists leaf.now) (L.con leaf.now) }
     requires stands { StandsAt (L.con leaf.now) i t }
-    ensures { IsStep (GreatestSupported (L.lists leaf.now) (L.con leaf.now) i t) c.old.doms c.new.doms result }
+    ensures step { IsStep (GreatestSupported (L.lists leaf.now) (L.con leaf.now) i t) c.old.doms c.new.doms result }
+    ensures loses { Loses (Unsupported (L.lists leaf.now) (L.con leaf.now)) c.old.doms.sets c.new.doms.sets }
 {
     loop {
         c.lawful();
@@ -50,7 +53,8 @@ fn test<L: Leaf>(leaf: &L, c: &mut Ctx, i: usize, t: Term, a: i64) -> Result<(),
     requires stands { StandsAt (L.con leaf.now) i t }
     requires unbounded { is_place_bounded c.old.doms.vars t ≡ false }
     requires there { PlaceHas c.old.doms.sets t a }
-    ensures { IsStep (ValueSupported (L.lists leaf.now) (L.con leaf.now) i t a) c.old.doms c.new.doms result }
+    ensures step { IsStep (ValueSupported (L.lists leaf.now) (L.con leaf.now) i t a) c.old.doms c.new.doms result }
+    ensures loses { Loses (Unsupported (L.lists leaf.now) (L.con leaf.now)) c.old.doms.sets c.new.doms.sets }
 {
     c.lawful();
     if leaf.supported(c, i, a) {
@@ -64,7 +68,8 @@ fn test_each<L: Leaf>(leaf: &L, c: &mut Ctx, i: usize, t: Term) -> Result<(), Fa
     requires ready { IsReady c.old.doms.vars (L.lists leaf.now) (L.con leaf.now) }
     requires stands { StandsAt (L.con leaf.now) i t }
     requires unbounded { is_place_bounded c.old.doms.vars t ≡ false }
-    ensures { IsStep (AllSupported (L.lists leaf.now) (L.con leaf.now) i t) c.old.doms c.new.doms result }
+    ensures step { IsStep (AllSupported (L.lists leaf.now) (L.con leaf.now) i t) c.old.doms c.new.doms result }
+    ensures loses { Loses (Unsupported (L.lists leaf.now) (L.con leaf.now)) c.old.doms.sets c.new.doms.sets }
 {
     c.lawful();
     let mut a = c.lo(t);
@@ -115,7 +120,8 @@ fn asks_each<L: Leaf>(leaf: &L, c: &Ctx, t: Term) -> bool
 pub fn sweep_place<L: Leaf>(leaf: &L, c: &mut Ctx, i: usize) -> Result<(), Fail>
     requires ready { IsReady c.old.doms.vars (L.lists leaf.now) (L.con leaf.now) }
     requires within { i < length (places (L.con leaf.now)) }
-    ensures { IsStep (PlaceClosed c.old.doms.vars (L.lists leaf.now) (L.con leaf.now) i) c.old.doms c.new.doms result }
+    ensures step { IsStep (PlaceClosed c.old.doms.vars (L.lists leaf.now) (L.con leaf.now) i) c.old.doms c.new.doms result }
+    ensures loses { Loses (Unsupported (L.lists leaf.now) (L.con leaf.now)) c.old.doms.sets c.new.doms.sets }
 {
     c.lawful();
     let t = leaf.term(i);
@@ -131,7 +137,8 @@ pub fn sweep_place<L: Leaf>(leaf: &L, c: &mut Ctx, i: usize) -> Result<(), Fail>
 /// its ends alone the ends are taken, until they are supported.
 pub fn sweep<L: Leaf>(leaf: &L, c: &mut Ctx) -> Result<(), Fail>
     requires { IsReady c.old.doms.vars (L.lists leaf.now) (L.con leaf.now) }
-    ensures { IsStep (LeafClosed c.old.doms.vars (L.lists leaf.now) (L.con leaf.now)) c.old.doms c.new.doms result }
+    ensures step { IsStep (LeafClosed c.old.doms.vars (L.lists leaf.now) (L.con leaf.now)) c.old.doms c.new.doms result }
+    ensures loses { Loses (Unsupported (L.lists leaf.now) (L.con leaf.now)) c.old.doms.sets c.new.doms.sets }
 {
     if !leaf.bare() {
         return Err(Fail);

@@ -19,7 +19,8 @@ pub fn block(alloc: Global, inst: &Instance, s: &[i64], number: u64) -> Result<V
     Ok(text)
 }
 
-/// Puts the block of a solution in place of what the buffer holds, so that one buffer serves all blocks.
+/// Puts the block of a solution in place of what the buffer holds, so that one buffer serves all blocks. Where memory is
+/// wanting the buffer holds a part of the block, and is of no more use.
 pub fn write_block(
     buffer: &mut Vec<u8>,
     inst: &Instance,

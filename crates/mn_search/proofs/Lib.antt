@@ -12,4 +12,5 @@ pub mod Stacking
 pub mod Stepping
 pub mod There
 pub mod Turning
+pub mod Visited
 pub mod Visiting

@@ -18,7 +18,8 @@ mod tree;
 mod turns;
 
 pub use laws::{
-    paths_are_ordered, solutions_are_visited, visits_are_few, visits_are_there, visits_are_unique,
+    paths_are_ordered, solutions_are_visited, visited_boxes_hold_assignments, visits_are_few,
+    visits_are_there, visits_are_unique, visits_have_boxes,
 };
 pub use search::{Event, Search};
 pub use std::alloc::AllocError as NoMemory;

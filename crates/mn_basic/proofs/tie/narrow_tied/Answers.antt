@@ -1,9 +1,14 @@
 use Rattle.mn_closure.specs.Closed.{LeafClosed}
 use Rattle.mn_basic.specs.Pairs.{pair_of}
+use Rattle.mn_prop.specs.Losses.{Unsupported}
+use Rattle.mn_prop.proofs.Losing.{loses_more}
 use Rattle.mn_basic.proofs.Tied.{narrows_step}
 use Rattle.mn_basic.proofs.tie.narrow_tied.Goals as goal
 
-pub returns : goal.returns
-returns c =
+pub returns-clause-step : goal.returns-clause-step
+returns-clause-step c =
     let p = c.args.p.now in
-    narrows_step (λ vars. LeafClosed vars p.lists.now (pair_of p.relation p.x p.y)) c.args.c.now.doms c.cut_first.new.c.doms c.narrow_second.new.c.doms c.in_ok-cut_first.field-0 c.narrow_second.result c.lawful.ensures.boxes.now c.lawful-2.ensures.boxes.now c.in_ok-cut_first.ensures c.narrow_second.ensures
+    narrows_step (λ vars. LeafClosed vars p.lists.now (pair_of p.relation p.x p.y)) c.args.c.now.doms c.cut_first.new.c.doms c.narrow_second.new.c.doms c.in_ok-cut_first.field-0 c.narrow_second.result c.lawful.ensures.boxes.now c.lawful-2.ensures.boxes.now c.in_ok-cut_first.ensures.step c.narrow_second.ensures.step
+
+pub returns-clause-loses : goal.returns-clause-loses
+returns-clause-loses c = let p = c.args.p.now in loses_more (Unsupported p.lists.now (pair_of p.relation p.x p.y)) c.args.c.now.doms.sets c.cut_first.new.c.doms.sets c.narrow_second.new.c.doms.sets c.cut_first.ensures.loses c.narrow_second.ensures.loses

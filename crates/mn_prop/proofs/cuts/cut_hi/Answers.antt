@@ -2,18 +2,33 @@ use Rattle.std.proofs.Common.{◌≡◌, ◌<ℤ◌, ◌∙◌, FitsSigned, int_
 use Rattle.std.proofs.lemmas.Int.{ints, to_z-of_z}
 use Rattle.std.specs.Int.{w128}
 use Rattle.mn_prop.specs.Contexts.{ChangedAt}
+use Rattle.mn_prop.specs.Losses.{nothing_goes}
+use Rattle.mn_prop.proofs.Losing.{loses_high}
 use Rattle.mn_prop.proofs.Bounding.{high_cut, high_fails}
 use Rattle.mn_prop.proofs.cuts.cut_hi.Goals as goal
 
-pub returns-then-bound-from : goal.returns-then-bound-from
-returns-then-bound-from c =
+pub returns-then-bound-from-clause-step : goal.returns-then-bound-from-clause-step
+returns-then-bound-from-clause-step c =
     let beyond : c.args.bound <ℤ c.lo-lo.result = omega (arith, ints) in
     high_fails c.args.t c.args.bound c.lo-lo.result c.args.c.now.doms _ c.lawful.ensures.boxes.now c.requires c.lo-lo.ensures.least beyond
 
-pub returns : goal.returns
-returns c =
+pub returns-clause-step : goal.returns-clause-step
+returns-clause-step c =
     let fits : FitsSigned w64 c.narrowed.result = search rules in
     let change = rw (to_z-of_z w64 c.narrowed.result fits) at c.set_hi.ensures in
     let at : c.narrowed.result ≡ c.args.bound = c.narrowed.ensures ∙ to_z-of_z w128 c.args.bound c.ranges.bound in
     high_cut c.args.t c.args.bound c.args.c.now c.set_hi.new.self c.set_hi.result c.lawful.ensures.boxes.now c.requires
     (subst (λ b. ChangedAt (λ x. int_le x b) c.args.t c.args.c.now c.set_hi.new.self c.set_hi.result) at change)
+
+pub returns-clause-loses : goal.returns-clause-loses
+returns-clause-loses c =
+    let fits : FitsSigned w64 c.narrowed.result = search rules in
+    let change = rw (to_z-of_z w64 c.narrowed.result fits) at c.set_hi.ensures in
+    let at : c.narrowed.result ≡ c.args.bound = c.narrowed.ensures ∙ to_z-of_z w128 c.args.bound c.ranges.bound in
+    loses_high c.args.t c.args.bound c.args.c.now c.set_hi.new.self c.set_hi.result (subst (λ b. ChangedAt (λ x. int_le x b) c.args.t c.args.c.now c.set_hi.new.self c.set_hi.result) at change)
+
+pub returns-then-from-bound-clause-loses : goal.returns-then-from-bound-clause-loses
+returns-then-from-bound-clause-loses c = nothing_goes c.args.c.now.doms.sets
+
+pub returns-then-bound-from-clause-loses : goal.returns-then-bound-from-clause-loses
+returns-then-bound-from-clause-loses c = nothing_goes c.args.c.now.doms.sets

@@ -3,8 +3,12 @@ use Rattle.std.proofs.lemmas.Int.{to_z-of_z}
 use Rattle.std.proofs.lemmas.Option.{slice_get_within}
 use Rattle.mn_model.specs.Parts.{places}
 use Rattle.mn_closure.specs.Supports.{Supported}
+use Rattle.mn_prop.specs.Losses.{Unsupported, nothing_goes}
 use Rattle.mn_prop.specs.Passes.{IsReady}
+use Rattle.mn_prop.specs.Sweeps.{GreatestSupported}
 use Rattle.mn_prop.proofs.Counting.{removed_fewer}
+use Rattle.mn_prop.proofs.Going.{begins}
+use Rattle.mn_prop.proofs.Losing.{loses_more, loses_value}
 use Rattle.mn_prop.proofs.Ready.{ready_named}
 use Rattle.mn_prop.proofs.Testing.{end_may, greatest_end, lower_fails, lowered}
 use Rattle.mn_prop.proofs.sweeps.lower.Goals as goal
@@ -15,7 +19,7 @@ hi-a-requires g c =
     let con = g.L.Leaf.con c.args.leaf.now in
     let s = c.loop-t.c.doms in
     let is = c.lawful.ensures.boxes.now in
-    let ready = subst (λ vars. IsReady vars lists con) (sym c.loop-t.invariant.takes.vars) c.requires.ready in
+    let ready = subst (λ vars. IsReady vars lists con) (sym c.loop-t.invariant.kept.takes.vars) c.requires.ready in
     let named = ready_named s.vars lists con s.sets c.args.i c.args.t is ready c.requires.stands in
     named
 
@@ -25,7 +29,7 @@ supported-requires-clause-ready g c =
     let con = g.L.Leaf.con c.args.leaf.now in
     let s = c.loop-t.c.doms in
     let is = c.lawful.ensures.boxes.now in
-    let ready = subst (λ vars. IsReady vars lists con) (sym c.loop-t.invariant.takes.vars) c.requires.ready in
+    let ready = subst (λ vars. IsReady vars lists con) (sym c.loop-t.invariant.kept.takes.vars) c.requires.ready in
     let named = ready_named s.vars lists con s.sets c.args.i c.args.t is ready c.requires.stands in
     ready
 
@@ -38,7 +42,7 @@ remove-requires-clause-may g c =
     let con = g.L.Leaf.con c.args.leaf.now in
     let s = c.loop-t.c.doms in
     let is = c.lawful.ensures.boxes.now in
-    let ready = subst (λ vars. IsReady vars lists con) (sym c.loop-t.invariant.takes.vars) c.requires.ready in
+    let ready = subst (λ vars. IsReady vars lists con) (sym c.loop-t.invariant.kept.takes.vars) c.requires.ready in
     let named = ready_named s.vars lists con s.sets c.args.i c.args.t is ready c.requires.stands in
     let fits : FitsSigned w64 c.hi-a.result = search rules in
     rw (to_z-of_z w64 c.hi-a.result fits) (end_may s.vars s.sets c.args.t c.hi-a.result (greatest_end s.vars s.sets c.args.t c.hi-a.result is c.hi-a.ensures.greatest))
@@ -49,7 +53,7 @@ loop-t-smaller g c =
     let con = g.L.Leaf.con c.args.leaf.now in
     let s = c.loop-t.c.doms in
     let is = c.lawful.ensures.boxes.now in
-    let ready = subst (λ vars. IsReady vars lists con) (sym c.loop-t.invariant.takes.vars) c.requires.ready in
+    let ready = subst (λ vars. IsReady vars lists con) (sym c.loop-t.invariant.kept.takes.vars) c.requires.ready in
     let named = ready_named s.vars lists con s.sets c.args.i c.args.t is ready c.requires.stands in
     let fits : FitsSigned w64 c.hi-a.result = search rules in
     let changed = rw (to_z-of_z w64 c.hi-a.result fits) at c.in_ok-remove.ensures in
@@ -61,24 +65,40 @@ loop-t-preserved g c =
     let con = g.L.Leaf.con c.args.leaf.now in
     let s = c.loop-t.c.doms in
     let is = c.lawful.ensures.boxes.now in
-    let ready = subst (λ vars. IsReady vars lists con) (sym c.loop-t.invariant.takes.vars) c.requires.ready in
+    let ready = subst (λ vars. IsReady vars lists con) (sym c.loop-t.invariant.kept.takes.vars) c.requires.ready in
     let named = ready_named s.vars lists con s.sets c.args.i c.args.t is ready c.requires.stands in
     let fits : FitsSigned w64 c.hi-a.result = search rules in
     let exact = rw (to_z-of_z w64 c.hi-a.result fits) at c.supported.ensures in
     let unsupported : Supported lists con c.args.i c.hi-a.result s.sets → ⊥ = λ supported. true≢false (sym (exact.1 supported) ∙ c.if-supported.false) in
     let changed = rw (to_z-of_z w64 c.hi-a.result fits) at c.in_ok-remove.ensures in
-    lowered lists con c.args.i c.args.t c.hi-a.result c.args.c.now c.loop-t.c c.remove.new.self c.in_ok-remove.field-0 c.loop-t.invariant is named c.hi-a.ensures.greatest unsupported changed
+    record {
+      kept = lowered lists con c.args.i c.args.t c.hi-a.result c.args.c.now c.loop-t.c c.remove.new.self c.in_ok-remove.field-0 c.loop-t.invariant.kept is named c.hi-a.ensures.greatest unsupported changed;
+      loses = loses_more (Unsupported lists con) c.args.c.now.doms.sets s.sets c.remove.new.self.doms.sets c.loop-t.invariant.loses (loses_value lists con c.args.i c.args.t c.hi-a.result c.loop-t.c c.remove.new.self c.remove.result c.requires.stands unsupported (rw (to_z-of_z w64 c.hi-a.result fits) at c.remove.ensures));
+    }
 
-pub returns-in_err-remove : goal.returns-in_err-remove
-returns-in_err-remove g c =
+pub returns-in_err-remove-clause-step : goal.returns-in_err-remove-clause-step
+returns-in_err-remove-clause-step g c =
     let lists = g.L.Leaf.lists c.args.leaf.now in
     let con = g.L.Leaf.con c.args.leaf.now in
     let s = c.loop-t.c.doms in
     let is = c.lawful.ensures.boxes.now in
-    let ready = subst (λ vars. IsReady vars lists con) (sym c.loop-t.invariant.takes.vars) c.requires.ready in
+    let ready = subst (λ vars. IsReady vars lists con) (sym c.loop-t.invariant.kept.takes.vars) c.requires.ready in
     let named = ready_named s.vars lists con s.sets c.args.i c.args.t is ready c.requires.stands in
     let fits : FitsSigned w64 c.hi-a.result = search rules in
     let exact = rw (to_z-of_z w64 c.hi-a.result fits) at c.supported.ensures in
     let unsupported : Supported lists con c.args.i c.hi-a.result s.sets → ⊥ = λ supported. true≢false (sym (exact.1 supported) ∙ c.if-supported.false) in
     let changed = rw (to_z-of_z w64 c.hi-a.result fits) at c.in_err-remove.ensures in
-    lower_fails lists con c.args.i c.args.t c.hi-a.result c.args.c.now c.loop-t.c c.remove.new.self c.in_err-remove.field-0.0 c.from_residual.result c.loop-t.invariant is named c.hi-a.ensures.greatest unsupported changed c.from_residual.ensures.0
+    lower_fails lists con c.args.i c.args.t c.hi-a.result c.args.c.now c.loop-t.c c.remove.new.self c.in_err-remove.field-0.0 c.from_residual.result c.loop-t.invariant.kept is named c.hi-a.ensures.greatest unsupported changed c.from_residual.ensures.0
+
+pub returns-in_err-remove-clause-loses : goal.returns-in_err-remove-clause-loses
+returns-in_err-remove-clause-loses g c =
+    let lists = g.L.Leaf.lists c.args.leaf.now in
+    let con = g.L.Leaf.con c.args.leaf.now in
+    let s = c.loop-t.c.doms in
+    let fits : FitsSigned w64 c.hi-a.result = search rules in
+    let exact = rw (to_z-of_z w64 c.hi-a.result fits) at c.supported.ensures in
+    let unsupported : Supported lists con c.args.i c.hi-a.result s.sets → ⊥ = λ supported. true≢false (sym (exact.1 supported) ∙ c.if-supported.false) in
+    loses_more (Unsupported lists con) c.args.c.now.doms.sets s.sets c.remove.new.self.doms.sets c.loop-t.invariant.loses (loses_value lists con c.args.i c.args.t c.hi-a.result c.loop-t.c c.remove.new.self c.remove.result c.requires.stands unsupported (rw (to_z-of_z w64 c.hi-a.result fits) at c.remove.ensures))
+
+pub loop-t-init : goal.loop-t-init
+loop-t-init g c = record { kept = begins (GreatestSupported (g.L.Leaf.lists c.args.leaf.now) (g.L.Leaf.con c.args.leaf.now) c.args.i c.args.t) c.args.c.now.doms; loses = nothing_goes c.args.c.now.doms.sets }
