@@ -1,5 +1,5 @@
 -- Values that go aren't supported.
-use Rattle.std.proofs.Common.{◌≡◌, ◌≢◌, ℤ, pos, negsuc, ◌+ℤ◌, ◌-ℤ◌, ◌≤ℤ◌, ◌<ℤ◌, ◌⊎◌, inl, inr, List, Result, refl, sym, subst, ap, ◌∙◌, arith}
+use Rattle.std.proofs.Common.{◌≡◌, ℤ, negsuc, ◌+ℤ◌, ◌-ℤ◌, ◌≤ℤ◌, ◌<ℤ◌, inl, inr, List, Result, refl, sym, subst, ap, ◌∙◌, arith}
 use Rattle.std.proofs.lemmas.Int.{ints}
 use Rattle.mn_model.specs.declared.constraint.Con.{Con}
 use Rattle.mn_model.specs.declared.constraint.Term.{Term}
@@ -7,7 +7,7 @@ use Rattle.mn_model.specs.declared.declaration.Tuples.{Tuples}
 use Rattle.mn_boxes.specs.Boxes.{Inside}
 use Rattle.mn_boxes.specs.Places.{PlaceHas}
 use Rattle.mn_closure.specs.Closed.{IsAlone}
-use Rattle.mn_closure.specs.Supports.{StandsAt, Supported}
+use Rattle.mn_closure.specs.Supports.{StandsAt}
 use Rattle.mn_closure.proofs.Wider.{wider_place}
 use Rattle.mn_domains.specs.Changes.{is_not}
 use Rattle.mn_prop.specs.Contexts.{ChangedAt, Context, IsGreatestAt, IsLeastAt}

@@ -1,40 +1,26 @@
 -- The layout of more and more variables.
-use Rattle.std.proofs.Common.{◌≡◌, ℕ, zero, suc, ◌+◌, ◌-◌, ◌≤◌, ℤ, true, List, [], ◌∷◌, ◌++◌, length, map, take, drop, slice_get, slice_range, Some, refl, sym, subst, ap, ◌∙◌, arith}
-use Rattle.std.proofs.lemmas.List.{length-append, length-take, drop-take, take-take, map-append}
+use Rattle.std.proofs.Common.{◌≡◌, ℕ, zero, suc, ◌+◌, ◌-◌, ◌<◌, ◌≤◌, ℤ, IsTrue, true, List, [], ◌∷◌, ◌++◌, length, map, replicate, take, drop, get_or, slice_get, slice_range, Some, refl, sym, subst, ap, ◌∙◌, arith}
+use Rattle.std.proofs.lemmas.List.{append-nil, append_assoc, length-append, length-map, length-take, drop-take, take-take, take_all, map-append, replicate_more}
+use Rattle.std.proofs.lemmas.Option.{slice_get_read}
 use Rattle.std.specs.Int.{int_gap}
 use Rattle.std.specs.List.{AllByRecursion}
-use Rattle.std.specs.Option.{option_map}
-use Rattle.mn_model.specs.Domain.{Ascends, IsDomain, IsValue}
-use Rattle.mn_model.specs.Lawful.{IsLawfulDecl, SuitsKind}
+use Rattle.mn_model.specs.Domain.{Ascends, IsValue}
+use Rattle.mn_model.specs.Lawful.{AreNumberedFrom}
+use Rattle.mn_model.specs.Problem.{size_of_dims, variable_count, variables_of}
+use Rattle.mn_model.specs.Variable.{number_of}
 use Rattle.mn_model.specs.declared.declaration.Decl.{Decl}
-use Rattle.mn_model.specs.declared.variable.Kind.{Kind}
+use Rattle.mn_model.proofs.Kept.{numbered_within, variable_count-push, variables_of-push}
 use Rattle.mn_model.proofs.Lists.{all_push}
-use Rattle.mn_boxes.specs.Sets.{Variable, is_bounded, variable_of}
-use Rattle.mn_domains.specs.Held.{AreApartFrom, IsShape, variable_held}
+use Rattle.mn_model.proofs.Variables.{variable_count-cons}
+use Rattle.mn_boxes.specs.Boxes.{declared_variables}
+use Rattle.mn_boxes.specs.Sets.{Variable, variable_of}
+use Rattle.mn_domains.specs.Held.{AreApartFrom, IsShape, is_bounded_shape, variable_held}
+use Rattle.mn_domains.specs.Laid.{IsLaid, laid}
 use Rattle.mn_domains.specs.Layouts.{AddsShape, AreShapesOf, BeginsAt, Grew, bits_behind, last_behind}
+use Rattle.mn_domains.specs.declared.layout.Layout.{Layout}
 use Rattle.mn_domains.specs.declared.shape.Shape.{Shape}
 use Rattle.mn_domains.specs.declared.shape.Shape.TheVariants.{Stretch, Listed, Bits}
-
--- what an instance says of a variable
-pub record DeclaredAt (ds : List Decl) (v : ℕ) (kind : Kind) (domain : List ℤ) : Type 0 where
-  pub domain_is : IsDomain domain
-  pub suits : SuitsKind kind domain
-  pub var : take (v + 1) (map variable_of ds) ≡ take v (map variable_of ds) ++ (record { declared = domain; bounded = is_bounded kind }) ∷ []
-
-pub declared_at : (ds : List Decl) (v : ℕ) (kind : Kind) (domain : List ℤ) → AllByRecursion IsLawfulDecl ds → option_map (λ d. d.kind) (slice_get ds v) ≡ Some kind → slice_get (map (λ d. d.domain) ds) v ≡ Some domain → DeclaredAt ds v kind domain
-declared_at [] v kind domain lawful kind_at domain_at = cc
-declared_at (d ∷ ds) zero kind domain lawful kind_at domain_at =
-    let same_kind : d.kind ≡ kind = cc in
-    let same_domain : d.domain ≡ domain = cc in
-    record {
-      domain_is = subst IsDomain same_domain lawful.0.domain;
-      suits = subst (λ k. SuitsKind k domain) same_kind (subst (SuitsKind d.kind) same_domain lawful.0.suits);
-      var = ap (λ k. (record { declared = d.domain; bounded = is_bounded k }) ∷ []) same_kind ∙ ap (λ xs. (record { declared = xs; bounded = is_bounded kind }) ∷ []) same_domain;
-    }
-declared_at (d ∷ ds) (suc v) kind domain lawful kind_at domain_at =
-    let rest = declared_at ds v kind domain lawful.1 kind_at domain_at in
-    let n : suc v + 1 ≡ suc (v + 1) = omega arith in
-    record { domain_is = rest.domain_is; suits = rest.suits; var = rw n (ap (λ vs. variable_of d ∷ vs) rest.var) }
+use Rattle.mn_domains.proofs.Laying.{take_slice_get}
 
 -- ---- what is listed grows
 
@@ -116,4 +102,96 @@ shapes_push listed more shapes shape bits behind vars var are adds =
       apart = apart_push 0 bits shapes shape are.apart are.behind adds.begins;
       behind = omega (arith, last_behind-push 0 shapes shape);
       few = omega arith;
+    }
+
+-- ---- the variables of one declaration
+
+append_next : {X : Type 0} (xs : List X) (n : ℕ) (x : X) → (xs ++ replicate n x) ++ x ∷ [] ≡ xs ++ replicate (n + 1) x
+append_next xs n x = append_assoc xs (replicate n x) (x ∷ []) ∙ ap (λ ys. xs ++ ys) (replicate_more n x)
+
+pub length-laid : (listed : List ℤ) (shapes : List Shape) (bits : ℕ) (vars : List Variable) → AreShapesOf listed shapes bits vars → length shapes ≡ length vars
+length-laid listed shapes bits vars are = sym (length-map shapes (variable_held listed)) ∙ ap length are.holds
+
+-- a layout is one of the variables that it has
+pub by_itself : (listed : List ℤ) (shapes : List Shape) (bits : ℕ) (vars : List Variable) → AreShapesOf listed shapes bits vars → AreShapesOf listed shapes bits (map (variable_held listed) shapes)
+by_itself listed shapes bits vars are = subst (AreShapesOf listed shapes bits) (sym are.holds) are
+
+-- one more variable of a declaration
+pub shapes_next : (listed more : List ℤ) (shapes : List Shape) (shape : Shape) (bits behind : ℕ) (vars : List Variable) (n : ℕ) (var : Variable) → AreShapesOf listed shapes bits (vars ++ replicate n var) → AddsShape listed more bits behind var shape
+    → AreShapesOf more (shapes ++ shape ∷ []) behind (vars ++ replicate (n + 1) var)
+shapes_next listed more shapes shape bits behind vars n var are adds =
+    subst (AreShapesOf more (shapes ++ shape ∷ []) behind) (append_next vars n var) (shapes_push listed more shapes shape bits behind (vars ++ replicate n var) var are adds)
+
+adds_plain : (listed : List ℤ) (bits : ℕ) (shape : Shape) → IsShape listed bits shape → IsTrue (is_bounded_shape shape) → AddsShape listed listed bits bits (variable_held listed shape) shape
+adds_plain listed bits (Stretch lo hi) is plain = record { grew = take_all (length listed) listed (omega arith); shaped = is; holds = refl; begins = tt; ends = refl; few = omega arith }
+adds_plain listed bits (Listed from to) is plain = record { grew = take_all (length listed) listed (omega arith); shaped = is; holds = refl; begins = tt; ends = refl; few = omega arith }
+adds_plain listed bits (Bits lo hi at) is plain = cc
+
+-- variables that have no bits, all of one shape
+pub shapes_alike : (listed : List ℤ) (shapes : List Shape) (shape : Shape) (bits : ℕ) (vars : List Variable) (n : ℕ) → AreShapesOf listed shapes bits vars → IsShape listed bits shape → IsTrue (is_bounded_shape shape)
+    → AreShapesOf listed (shapes ++ replicate n shape) bits (vars ++ replicate n (variable_held listed shape))
+shapes_alike listed shapes shape bits vars zero are is plain = rw (append-nil shapes, append-nil vars) are
+shapes_alike listed shapes shape bits vars (suc n) are is plain =
+    let var = variable_held listed shape in
+    let before = shapes_alike listed shapes shape bits vars n are is plain in
+    let next = shapes_next listed listed (shapes ++ replicate n shape) shape bits bits vars n var before (adds_plain listed bits shape is plain) in
+    let long : n + 1 ≡ suc n = omega arith in
+    subst (λ k. AreShapesOf listed (shapes ++ replicate k shape) bits (vars ++ replicate k var)) long (subst (λ ss. AreShapesOf listed ss bits (vars ++ replicate (n + 1) var)) (append_next shapes n shape) next)
+
+-- a listing for the variables that follow
+pub record IsListed (old new : Layout) : Type 0 where
+  pub same : laid new ≡ laid old
+  pub before : IsLaid new (laid new)
+
+no_bits : (n : ℕ) (shape : Shape) → IsTrue (is_bounded_shape shape) → bits_behind n shape ≡ n
+no_bits n (Stretch lo hi) plain = refl
+no_bits n (Listed from to) plain = refl
+no_bits n (Bits lo hi at) plain = cc
+
+pub is_listed : (old new : Layout) (var : Variable) (shape : Shape) → IsLaid old (laid old) → AddsShape old.listed.items new.listed.items old.bits new.bits var shape → IsTrue (is_bounded_shape shape) → new.shapes.items ≡ old.shapes.items → IsListed old new
+is_listed old new var shape are adds plain shapes =
+    let all = all_grown old.listed.items new.listed.items old.bits old.bits old.shapes.items adds.grew (omega arith) are.shaped in
+    let bits : old.bits ≡ new.bits = sym (adds.ends ∙ no_bits old.bits shape plain) in
+    let same : laid new ≡ laid old = ap (map (variable_held new.listed.items)) shapes ∙ all.holds in
+    let stays : AreShapesOf new.listed.items old.shapes.items old.bits (laid old) = record { holds = all.holds; shaped = all.shaped; apart = are.apart; behind = are.behind; few = are.few } in
+    record {
+      same = same;
+      before = subst (IsLaid new) (sym same) (subst (λ ss. AreShapesOf new.listed.items ss new.bits (laid old)) (sym shapes) (subst (λ n. AreShapesOf new.listed.items old.shapes.items n (laid old)) bits stays));
+    }
+
+-- ---- the declarations so far
+
+-- a declaration begins behind the variables of those before it
+pub begins_at : (n : ℕ) (decls : List Decl) (k : ℕ) (d : Decl) → AreNumberedFrom n decls → slice_get decls k ≡ Some d → number_of d.first ≡ n + variable_count (take k decls)
+begins_at n [] k d numbered is = cc
+begins_at n (x ∷ decls) zero d numbered is =
+    let same : x ≡ d = cc in
+    ap (λ y. number_of y.first) (sym same) ∙ (numbered.0 ∙ omega arith)
+begins_at n (x ∷ decls) (suc k) d numbered is = omega (arith, begins_at (n + size_of_dims x.dims) decls k d numbered.1 is, variable_count-cons x (take k decls))
+
+map-replicate : {X Y : Type 0} (f : X → Y) (n : ℕ) (x : X) → map f (replicate n x) ≡ replicate n (f x)
+map-replicate f zero x = refl
+map-replicate f (suc n) x = ap (λ ys. f x ∷ ys) (map-replicate f n x)
+
+-- the next declaration, as the code reads it: its first variable, and how many variables there are up to its last one
+pub record IsNext (decls : List Decl) (k : ℕ) (d : Decl) (first behind : ℕ) : Type 0 where
+  pub order : first ≤ behind
+  pub room : variable_count (take k decls) + (behind - first) ≤ variable_count decls
+  pub vars : declared_variables (take (k + 1) decls) ≡ declared_variables (take k decls) ++ replicate (behind - first) (variable_of d)
+
+pub is_next : (found decls : List Decl) (k : ℕ) (d : Decl) (first behind : ℕ) → found ≡ decls → AreNumberedFrom 0 decls → k < length found → d ≡ get_or found k d → first ≡ number_of d.first → behind ≡ variable_count (take (k + 1) decls)
+    → IsNext decls k d first behind
+is_next found decls k d first behind same numbered within read begins ends =
+    let is : slice_get decls k ≡ Some d = ap (λ ds. slice_get ds k) (sym same) ∙ slice_get_read found (length found) k d refl within read in
+    let n = size_of_dims d.dims in
+    let front = take k decls in
+    let one : take (k + 1) decls ≡ front ++ d ∷ [] = take_slice_get decls k d is in
+    let at : first ≡ 0 + variable_count front = begins ∙ begins_at 0 decls k d numbered is in
+    let more : behind ≡ variable_count front + n = ends ∙ (ap variable_count one ∙ variable_count-push front d) in
+    let size : n ≡ behind - first = omega (arith, at, more) in
+    let vars : declared_variables (front ++ d ∷ []) ≡ declared_variables front ++ replicate n (variable_of d) = ap (map variable_of) (variables_of-push front d) ∙ (map-append variable_of (variables_of front) (replicate n d) ∙ ap (λ vs. declared_variables front ++ vs) (map-replicate variable_of n d)) in
+    record {
+      order = omega (arith, at, more);
+      room = omega (arith, at, size, begins, numbered_within 0 decls k d numbered is);
+      vars = ap declared_variables one ∙ (vars ∙ ap (λ j. declared_variables front ++ replicate j (variable_of d)) size);
     }

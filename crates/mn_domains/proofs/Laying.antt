@@ -22,7 +22,7 @@ same_by_slice_get (x ∷ xs) (y ∷ ys) long each =
     let rest : xs ≡ ys = same_by_slice_get xs ys (omega arith) (λ k below. each (suc k) (omega arith)) in
     cc
 
-pub take_slice_get : (xs : List ℤ) (i : ℕ) (x : ℤ) → slice_get xs i ≡ Some x → take (i + 1) xs ≡ take i xs ++ x ∷ []
+pub take_slice_get : {X : Type 0} (xs : List X) (i : ℕ) (x : X) → slice_get xs i ≡ Some x → take (i + 1) xs ≡ take i xs ++ x ∷ []
 take_slice_get [] i x is = cc
 take_slice_get (y ∷ xs) zero x is = let same : y ≡ x = cc in ap (λ z. z ∷ []) same
 take_slice_get (y ∷ xs) (suc i) x is = let n : suc i + 1 ≡ suc (i + 1) = omega arith in rw n (ap (λ zs. y ∷ zs) (take_slice_get xs i x is))

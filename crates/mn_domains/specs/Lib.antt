@@ -1,6 +1,6 @@
-pub mod Adding
 pub mod Changes
 pub mod Held
+pub mod Laid
 pub mod Layouts
 pub mod Sets
 pub mod States

@@ -1,13 +1,15 @@
 //! How the declared sets are held.
-ghost use Rattle.std.specs.Prelude.{◌≡◌, ◌+◌, ◌*◌, ◌^◌, ◌<◌, ◌≤◌, [], ◌++◌, IfOk, length, true, false};
+ghost use Rattle.std.specs.Prelude.{◌≡◌, ◌+◌, ◌^◌, ◌≤◌, [], ◌++◌, IfOk, IsTrue, OnOk, length, replicate, take, true, false};
 ghost use Rattle.mn_model.specs.Domain.{IsDomain};
-ghost use Rattle.mn_model.specs.Lawful.{SuitsKind};
+ghost use Rattle.mn_model.specs.Lawful.{IsLawfulDecl, SuitsKind};
+ghost use Rattle.mn_model.specs.Problem.{variable_count};
 ghost use Rattle.mn_boxes.specs.Boxes.{declared_variables};
-ghost use Rattle.mn_boxes.specs.Sets.{is_bounded};
+ghost use Rattle.mn_boxes.specs.Sets.{variable_of};
+ghost use Rattle.mn_domains.specs.Held.{IsShape, is_bounded_shape, variable_held};
 ghost use Rattle.mn_domains.specs.Layouts.{AddsShape, AreShapesOf};
 
 use super::shape::Shape;
-use mn_model::{Domain, Instance, Kind, SPAN, VARIABLES, VarId};
+use mn_model::{Decl, Domain, Instance, Kind, SPAN, VARIABLES};
 use std::alloc::{AllocError, Global};
 
 /// The shapes of the variables so far, and what they stand on.
@@ -48,7 +50,7 @@ fn list(listed: &mut Vec<i64>, domain: &Domain) -> Result<(), AllocError>
 }
 
 impl Layout {
-    ghost use Rattle.mn_domains.specs.Adding.{AddsVariable};
+    ghost use Rattle.mn_domains.specs.Laid.{IsLaid, laid};
 
     /// No variables.
     pub fn new(alloc: Global) -> Layout
@@ -62,11 +64,12 @@ impl Layout {
         }
     }
 
-    /// The listing of a SPARSEBOUND variable. It is the last one where that has the same values.
+    /// The listing of a SPARSEBOUND declaration. It is the last one where that has the same values.
     fn listing(&mut self, domain: &Domain) -> Result<Shape, AllocError>
         requires domain { IsDomain domain.now }
         requires few { length domain.now ≤ SPAN }
         ensures shape { IfOk result (λ shape. AddsShape self.old.listed.items self.new.listed.items self.old.bits self.new.bits (record { declared = domain.now; bounded = true }) shape) }
+        ensures plain { IfOk result (λ shape. IsTrue (is_bounded_shape shape)) }
         ensures shapes { self.new.shapes.items ≡ self.old.shapes.items }
     {
         let to = self.listed.len();
@@ -91,31 +94,63 @@ impl Layout {
         Shape::Bits(domain.lo(), domain.hi(), at)
     }
 
-    /// The shape of one more variable.
-    fn shape(&mut self, kind: Kind, domain: &Domain) -> Result<Shape, AllocError>
+    /// Adds BOOL or DISCRETE variables, each with bits of its own.
+    fn add_rows(&mut self, domain: &Domain, count: usize) -> Result<(), AllocError>
         requires domain { IsDomain domain.now }
-        requires suits { SuitsKind kind domain.now }
-        requires few { self.old.bits ≤ 2 ^ 40 }
-        ensures shape { IfOk result (λ shape. AddsShape self.old.listed.items self.new.listed.items self.old.bits self.new.bits (record { declared = domain.now; bounded = is_bounded kind }) shape) }
-        ensures shapes { self.new.shapes.items ≡ self.old.shapes.items }
+        requires suits { SuitsKind Kind.Discrete domain.now }
+        requires before { IsLaid self.old (laid self.old) }
+        requires few { length self.old.shapes.items + count ≤ VARIABLES }
+        ensures { OnOk result (IsLaid self.new (laid self.old ++ replicate count (record { declared = domain.now; bounded = false }))) }
     {
-        match kind {
-            Kind::Bounded => Ok(Shape::Stretch(domain.lo(), domain.hi())),
-            Kind::Sparse => self.listing(domain),
-            Kind::Binary | Kind::Discrete => Ok(self.row(domain)),
+        for _ in 0..count {
+            let shape = self.row(domain);
+            self.shapes.push(shape)?;
         }
+        Ok(())
     }
 
-    /// Adds a variable.
-    fn add(&mut self, kind: Kind, domain: &Domain) -> Result<(), AllocError>
-        requires domain { IsDomain domain.now }
-        requires suits { SuitsKind kind domain.now }
-        requires few { self.old.bits ≤ 2 ^ 40 }
-        ensures { IfOk result (λ _. AddsVariable self.old self.new (record { declared = domain.now; bounded = is_bounded kind })) }
+    /// Adds variables that have no bits, all of one shape.
+    fn add_alike(&mut self, shape: Shape, count: usize) -> Result<(), AllocError>
+        requires shape { IsShape self.old.listed.items self.old.bits shape }
+        requires plain { IsTrue (is_bounded_shape shape) }
+        requires before { IsLaid self.old (laid self.old) }
+        requires few { length self.old.shapes.items + count ≤ VARIABLES }
+        ensures { OnOk result (IsLaid self.new (laid self.old ++ replicate count (variable_held self.old.listed.items shape))) }
     {
-        let shape = self.shape(kind, domain)?;
-        self.shapes.push(shape)?;
+        self.shapes.resize(self.shapes.len() + count, shape)?;
         Ok(())
+    }
+
+    /// Adds the variables of a declaration.
+    fn add(&mut self, decl: &Decl, count: usize) -> Result<(), AllocError>
+        requires lawful { IsLawfulDecl decl.now }
+        requires before { IsLaid self.old (laid self.old) }
+        requires few { length self.old.shapes.items + count ≤ VARIABLES }
+        ensures { OnOk result (IsLaid self.new (laid self.old ++ replicate count (variable_of decl.now))) }
+    {
+        let domain = &decl.domain;
+        match decl.kind {
+            Kind::Bounded => self.add_alike(Shape::Stretch(domain.lo(), domain.hi()), count),
+            Kind::Sparse => {
+                let shape = self.listing(domain)?;
+                self.add_alike(shape, count)
+            }
+            Kind::Binary | Kind::Discrete => self.add_rows(domain, count),
+        }
+    }
+}
+
+/// How many variables the first `k` declarations have.
+fn vars_before(inst: &Instance, k: usize) -> u32
+    requires { k ≤ length inst.now.decls }
+    ensures { result ≡ variable_count (take k inst.now.decls) }
+{
+    inst.lawful();
+    let decls = inst.decls();
+    if k < decls.len() {
+        decls[k].first.number()
+    } else {
+        inst.vars()
     }
 }
 
@@ -126,9 +161,9 @@ pub fn layout_of(alloc: Global, inst: &Instance) -> Result<Layout, AllocError>
 {
     inst.lawful();
     let mut layout = Layout::new(alloc);
-    for n in 0..inst.vars() {
-        let v = VarId::new(n);
-        layout.add(inst.kind(v), inst.domain(v))?;
+    for (k, decl) in inst.decls().iter().enumerate() {
+        let count = vars_before(inst, k + 1) - decl.first.number();
+        layout.add(decl, count as usize)?;
     }
     Ok(layout)
 }

@@ -1,8 +1,11 @@
 // Worked rows of changes, and that what takes memory can succeed.
 ghost use Rattle.std.specs.Prelude.{◌≡◌, ◌≤◌, [], ◌∷◌, length, pos, IfOk};
+ghost use Rattle.std.specs.List.{AllByRecursion};
 ghost use Rattle.mn_model.specs.Name.{IsName};
 ghost use Rattle.mn_model.specs.Lawful.{SuitsKind};
+ghost use Rattle.mn_model.specs.Problem.{size_of_dims};
 
+use crate::layout::layout_of;
 use crate::{Doms, Emptied, Moved};
 use mn_model::{Dims, Domain, Instance, Ints, Kind, Text, VARIABLES, VarId};
 use std::alloc::{AllocError, Global};
@@ -14,6 +17,36 @@ fn letter(alloc: Global, letter: char) -> Result<Text, AllocError>
     let mut text = Text::new(alloc);
     text.push(letter)?;
     Ok(text)
+}
+
+// Declares a variable, or a matrix of two.
+fn declared_matrix(
+    alloc: Global,
+    inst: &mut Instance,
+    name: &str,
+    initial: char,
+    dims: Dims,
+    kind: Kind,
+    domain: Domain,
+) -> Result<(), AllocError>
+    requires name { name.now ≡ initial ∷ [] }
+    requires named { IsName (initial ∷ []) }
+    requires shaped { AllByRecursion (λ dim. 1 ≤ dim) dims }
+    requires small { size_of_dims dims ≤ 2 }
+    requires suits { SuitsKind kind domain }
+{
+    if inst.find(name).is_some() {
+        return Err(AllocError);
+    }
+    if inst.find_alias(name).is_some() {
+        return Err(AllocError);
+    }
+    if inst.vars() >= VARIABLES - 1 {
+        return Err(AllocError);
+    }
+    let text = letter(alloc, initial)?;
+    inst.declare(text, dims, kind, domain)?;
+    Ok(())
 }
 
 // Declares one variable more.
@@ -29,18 +62,7 @@ fn declared(
     requires named { IsName (initial ∷ []) }
     requires suits { SuitsKind kind domain }
 {
-    if inst.find(name).is_some() {
-        return Err(AllocError);
-    }
-    if inst.find_alias(name).is_some() {
-        return Err(AllocError);
-    }
-    if inst.vars() == VARIABLES {
-        return Err(AllocError);
-    }
-    let text = letter(alloc, initial)?;
-    inst.declare(text, Dims::new(alloc), kind, domain)?;
-    Ok(())
+    declared_matrix(alloc, inst, name, initial, Dims::new(alloc), kind, domain)
 }
 
 fn gapped(alloc: Global) -> Result<Ints, AllocError>
@@ -66,6 +88,25 @@ fn doms(alloc: Global) -> Result<Doms, AllocError> {
     let discrete = Domain::stretch(alloc, 0, 130);
     declared(alloc, &mut inst, "d", 'd', Kind::Discrete, discrete)?;
     Doms::build(alloc, &inst)
+}
+
+fn pair(alloc: Global) -> Result<Dims, AllocError>
+    ensures { IfOk result (λ dims. dims ≡ 2 ∷ []) }
+{
+    let mut dims = Dims::new(alloc);
+    dims.push(2)?;
+    Ok(dims)
+}
+
+// A SPARSEBOUND matrix of two, and another SPARSEBOUND.
+fn listings(alloc: Global) -> Result<Instance, AllocError> {
+    let mut inst = Instance::empty(alloc)?;
+    let dims = pair(alloc)?;
+    let values = Domain::listed(gapped(alloc)?);
+    declared_matrix(alloc, &mut inst, "s", 's', dims, Kind::Sparse, values)?;
+    let others = Domain::stretch(alloc, 1, 2);
+    declared(alloc, &mut inst, "t", 't', Kind::Sparse, others)?;
+    Ok(inst)
 }
 
 #[derive(Clone, Copy, Debug, PartialEq, Eq)]
@@ -222,6 +263,23 @@ fn saved_sets_come_back(rt: HostRuntime) -> Result<(), Fail> {
         assert_eq!(rt; seen(&doms, 1).map(|all| all.0), Some(lo));
         assert_eq!(rt; doms.left(), left);
         assert_eq!(rt; (has(&doms, 3, 5), has(&doms, 3, 6)), (five, six));
+    }
+    Ok(())
+}
+
+#[test]
+fn a_matrix_has_one_listing(rt: HostRuntime) -> Result<(), Fail> {
+    let inst = listings(rt.alloc())?;
+    let layout = layout_of(rt.alloc(), &inst)?;
+    assert_eq!(rt; (layout.shapes.len(), layout.listed.len()), (3, 6));
+    let mut doms = Doms::build(rt.alloc(), &inst)?;
+    change(&mut doms, 0, Call::Low(1));
+    for (n, after) in [
+        (0, (2, 5, 3, Some(3))),
+        (1, (0, 5, 4, Some(2))),
+        (2, (1, 2, 2, Some(2))),
+    ] {
+        assert_eq!(rt; seen(&doms, n), Some(after), "{n}");
     }
     Ok(())
 }
