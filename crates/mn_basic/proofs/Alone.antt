@@ -14,6 +14,7 @@ use Rattle.mn_closure.specs.Closed.{Asked, IsAlone, LeafClosed}
 use Rattle.mn_closure.specs.Levels.{level}
 use Rattle.mn_closure.specs.Supports.{Choice, ChoiceWith, IsOpen, OtherOpen, StandsAt, Supported, SupportedAt}
 use Rattle.mn_closure.proofs.Singles.{value_at}
+use Rattle.mn_closure.proofs.Wider.{wider_place, wider_supported}
 use Rattle.mn_boxes.specs.Sets.{Variable}
 use Rattle.mn_domains.specs.Sets.{Sets}
 use Rattle.mn_prop.specs.Contexts.{IsNamed, place_lo}
@@ -187,6 +188,25 @@ pub left_step : (lists : List Tuples) (c : Con) (j : ℕ) (old new : Sets) (resu
 left_step lists c j old new result is lawful ready within alone step =
     as_step (PlaceClosed old.vars lists c j) (LeafClosed old.vars lists c) old new result (λ box lawful_box inside closed t a stands asked. closed.supported j t a stands asked)
     (left_closed old.vars lists c old.sets j is lawful (λ i t stands. ready_named old.vars lists c old.sets i t lawful ready stands) within alone) step
+
+pub same_term : (c : Con) (j : ℕ) (t u : Term) → StandsAt c j t → StandsAt c j u → t ≡ u
+same_term c j t u one another = cc (one, another)
+
+-- where that place has one value alone too, the constraint is met by all of them or can't be met
+pub single_met : (lists : List Tuples) (c : Con) (j : ℕ) (t : Term) (a : ℤ) (s : Sets) → IsWhole c → IsBox s.vars s.sets → IsReady s.vars lists c → j < length (places c) → OthersAlone c j s.sets → StandsAt c j t → IsAlone s.sets t a → Supported lists c j a s.sets → IsStep (LeafClosed s.vars lists c) s s (Ok tt)
+single_met lists c j t a s is lawful ready within alone stands one supported =
+    left_step lists c j s s (Ok tt) is lawful ready within alone
+    (no_step (PlaceClosed s.vars lists c j) s (λ u b at asked. subst (λ x. Supported lists c j x s.sets) (sym (one b (subst (λ v. PlaceHas s.sets v b) (same_term c j u t at stands) asked.there))) supported))
+
+pub single_unmet : (lists : List Tuples) (c : Con) (j : ℕ) (t : Term) (a : ℤ) (s : Sets) (fail : Fail) → IsWhole c → IsBox s.vars s.sets → IsReady s.vars lists c → j < length (places c) → OthersAlone c j s.sets → StandsAt c j t → IsAlone s.sets t a → (Supported lists c j a s.sets → ⊥)
+    → IsStep (LeafClosed s.vars lists c) s s (Err fail)
+single_unmet lists c j t a s fail is lawful ready within alone stands one unsupported =
+    left_step lists c j s s (Err fail) is lawful ready within alone
+    (failing (PlaceClosed s.vars lists c j) s s fail (none_taken s)
+    (λ box is_box inside closed.
+    (let least = least_of (level c) s.vars box t is_box (ready_named s.vars lists c box j t is_box ready stands) in
+    let same : least.value ≡ a = one least.value (wider_place box s.sets inside t least.value least.least.there) in
+    unsupported (wider_supported (level c) lists c j a box s.sets inside (subst (λ x. Supported lists c j x box) same (closed t least.value stands least.asked))))))
 
 -- a constraint with no places holds, or it doesn't
 pub bare_closed : (vars : List Variable) (lists : List Tuples) (c : Con) (s : Sets) → places c ≡ [] → (places c ≡ [] → Meets lists c []) → IsStep (LeafClosed vars lists c) s s (Ok tt)

@@ -34,6 +34,10 @@ pub record IsTrial (sets : List (List ℤ)) (t : Term) (a : ℤ) (values : ℕ �
 abbrev pub OthersAlone : Con → ℕ → List (List ℤ) → Type 0
 OthersAlone c i sets = (j : ℕ) (t : Term) → StandsAt c j t → j ≢ i → IsAlone sets t (place_lo sets t)
 
+-- and place i has one value alone too
+abbrev pub HasOneAt : Con → List (List ℤ) → ℕ → Type 0
+HasOneAt c sets i = (t : Term) → StandsAt c i t → IsAlone sets t (place_lo sets t)
+
 -- whichever place is left out, another one has several values
 abbrev pub AlwaysOtherOpen : Con → List (List ℤ) → Type 0
 AlwaysOtherOpen c sets = (i : ℕ) → OtherOpen c i sets

@@ -1,11 +1,11 @@
 //! Constraints that are asked as a whole.
-ghost use Rattle.std.specs.Prelude.{◌≡◌, [], IfOk, false, true};
+ghost use Rattle.std.specs.Prelude.{◌≡◌, ◌↔◌, [], IfOk, IsTrue, Some, false, true};
 ghost use Rattle.mn_model.specs.Parts.{places};
 ghost use Rattle.mn_closure.specs.Closed.{LeafClosed};
-ghost use Rattle.mn_closure.specs.Supports.{OtherOpen};
+ghost use Rattle.mn_closure.specs.Supports.{OtherOpen, Supported};
 ghost use Rattle.mn_prop.specs.Losses.{Loses, Unsupported};
-ghost use Rattle.mn_prop.specs.Passes.{IsReady, IsStep};
-ghost use Rattle.mn_basic.specs.Trials.{IsLeft, OthersAlone, is_pair};
+ghost use Rattle.mn_prop.specs.Passes.{HasAt, IsReady, IsStep};
+ghost use Rattle.mn_basic.specs.Trials.{HasOneAt, IsLeft, OthersAlone, is_pair};
 
 use crate::placing::places_in;
 use crate::trial::Trial;
@@ -57,9 +57,36 @@ impl<'a> Whole<'a> {
             return Ok(());
         }
         match self.place_left(c) {
+            Some(j) if c.is_single(self.terms[j]) => self.test_single(c, j),
             Some(j) => sweep_place(self, c, j),
             None => Ok(()),
         }
+    }
+
+    // Fails where the constraint doesn't hold of the one value that each place has.
+    fn test_single(&self, c: &Ctx, j: usize) -> Result<(), Fail>
+        requires ready { IsReady c.now.doms.vars self.now.lists.now self.now.con.now }
+        requires left { IsLeft self.now.con.now c.now.doms.sets (Some j) }
+        requires single { HasOneAt self.now.con.now c.now.doms.sets j }
+        ensures { IsStep (LeafClosed c.now.doms.vars self.now.lists.now self.now.con.now) c.now.doms c.now.doms result }
+    {
+        c.lawful();
+        let value = c.lo(self.terms[j]);
+        if self.holds_with(c, j, value) {
+            return Ok(());
+        }
+        Err(Fail)
+    }
+
+    // Whether the constraint holds with a value of the place, where each other place has one value alone.
+    fn holds_with(&self, c: &Ctx, j: usize, a: i64) -> bool
+        requires ready { IsReady c.now.doms.vars self.now.lists.now self.now.con.now }
+        requires left { IsLeft self.now.con.now c.now.doms.sets (Some j) }
+        requires there { HasAt self.now.con.now j a c.now.doms.sets }
+        ensures { IsTrue result ↔ Supported self.now.lists.now self.now.con.now j a c.now.doms.sets }
+    {
+        c.lawful();
+        holds_beside(self.con, &Trial::of(c, self.terms[j], a), self.lists)
     }
 
     // The place that alone may have several values, the first one where none has. None where two have, so that every value
@@ -113,7 +140,7 @@ impl Leaf for Whole<'_> {
         if self.is_other_open(c, i) {
             return true;
         }
-        holds_beside(self.con, &Trial::of(c, self.terms[i], a), self.lists)
+        self.holds_with(c, i, a)
     }
 
     fn bare(&self) -> bool {

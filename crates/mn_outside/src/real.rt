@@ -17,6 +17,7 @@ pub struct DiskFiles<R> {
 }
 
 impl<R: FileSystem> DiskFiles<R> {
+    /// The files of the system, by what makes its calls.
     pub fn new(rt: R) -> Self
         ensures untold { ⟦<DiskFiles<R> as Files>⟧.content result ≡ None }
         ensures unread { (name : List ℕ) → ⟦<DiskFiles<R> as Files>⟧.reading result name ≡ 0 }
@@ -97,6 +98,7 @@ pub struct StdSink<R> {
 }
 
 impl<R: Print> StdSink<R> {
+    /// Standard output, by what prints to it.
     pub fn new(rt: R) -> Self
         ensures untold { ⟦<StdSink<R> as Sink>⟧.content result ≡ None }
         ensures unwritten { ⟦<StdSink<R> as Sink>⟧.faults result ≡ 0 }

@@ -1,27 +1,4 @@
-use Rattle.std.proofs.Common.{w64}
-use Rattle.std.proofs.lemmas.Int.{to_z-of_z}
-use Rattle.mn_basic.specs.Trials.{tried_value}
-use Rattle.mn_prop.proofs.Ready.{ready_named}
-use Rattle.mn_basic.proofs.Alone.{index_stands, trial_tells, whole}
 use Rattle.mn_basic.proofs.whole.WholeLeaf.supported.Goals as goal
 
-pub of-requires-clause-named : goal.of-requires-clause-named
-of-requires-clause-named c =
-    let d = c.args.c.now.doms in
-    let self = c.args.self.now in
-    ready_named d.vars self.lists.now self.con.now d.sets c.args.i c.index.result.now c.lawful.ensures.boxes.now c.requires.ready (index_stands self.con.now self.terms.items c.args.i c.index.result.now self.placed c.requires.place c.index.ensures)
-
-pub of-requires-clause-there : goal.of-requires-clause-there
-of-requires-clause-there c =
-    let self = c.args.self.now in
-    rw (to_z-of_z w64 c.args.a c.ranges.a) (c.requires.there c.index.result.now (index_stands self.con.now self.terms.items c.args.i c.index.result.now self.placed c.requires.place c.index.ensures))
-
-pub returns : goal.returns
-returns c =
-    let d = c.args.c.now.doms in
-    let self = c.args.self.now in
-    let trial = rw (to_z-of_z w64 c.args.a c.ranges.a) at c.of.ensures in
-    trial_tells self.lists.now self.con.now c.args.i c.index.result.now c.args.a d.sets (tried_value c.of.result.c.now.doms.sets c.of.result.tried c.of.result.value) c.holds_beside.result (whole self.con.now self.whole)
-    (index_stands self.con.now self.terms.items c.args.i c.index.result.now self.placed c.requires.place c.index.ensures)
-    (λ j t stands. ready_named d.vars self.lists.now self.con.now d.sets j t c.lawful.ensures.boxes.now c.requires.ready stands)
-    (c.is_other_open.ensures.alone c.if-is_other_open.false) trial c.holds_beside.ensures
+pub holds_with-requires-clause-left : goal.holds_with-requires-clause-left
+holds_with-requires-clause-left c = (c.requires.place, c.is_other_open.ensures.alone c.if-is_other_open.false)
