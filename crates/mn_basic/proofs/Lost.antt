@@ -17,7 +17,7 @@ use Rattle.mn_prop.proofs.Losing.{loses_change, loses_more, loses_so, taken_alon
 use Rattle.mn_basic.specs.Literals.{IsOneOf, literal_of}
 use Rattle.mn_basic.specs.Losses.{OutOf, OutOfOrder, SameAt, SameAtEither, ThatAt}
 use Rattle.mn_basic.specs.Narrowing.{IsIn}
-use Rattle.mn_basic.specs.Pairs.{IsTied, Related, pair_of}
+use Rattle.mn_basic.specs.Pairs.{Related, pair_of}
 use Rattle.mn_basic.specs.declared.numbers.Numbers.{Numbers}
 use Rattle.mn_basic.specs.declared.numbers.Numbers.TheVariants.{Is, IsNot, Between}
 use Rattle.mn_basic.specs.declared.relation.Relation.{Relation}
@@ -106,21 +106,21 @@ below_loses r x y lists old new is loses = ordered_loses r x y (negsuc 0) lists 
 
 -- ---- places that are tied
 
-pub first_loses : (r : Relation) (x y : Term) (lists : List Tuples) (other s : Span) (lo hi : ℤ) (old new : List (List ℤ)) → IsTied r → IsLeastAt old y lo → IsGreatestAt old y hi
-    → ((b : ℤ) → lo ≤ℤ b → b ≤ℤ hi → IsIn other b) → ((a b : ℤ) → IsTied r → Related r a b → IsIn other b → IsIn s a) → Loses (OutOf s x) old new → Loses (Unsupported lists (pair_of r x y)) old new
-first_loses r x y lists other s lo hi old new tied low high of spans loses =
+pub first_loses : (r : Relation) (x y : Term) (lists : List Tuples) (other s : Span) (lo hi : ℤ) (old new : List (List ℤ)) → IsLeastAt old y lo → IsGreatestAt old y hi
+    → ((b : ℤ) → lo ≤ℤ b → b ≤ℤ hi → IsIn other b) → ((a b : ℤ) → Related r a b → IsIn other b → IsIn s a) → Loses (OutOf s x) old new → Loses (Unsupported lists (pair_of r x y)) old new
+first_loses r x y lists other s lo hi old new low high of spans loses =
     loses_so (OutOf s x) (Unsupported lists (pair_of r x y)) old new
-    (λ box i u a has out. no_second r x y lists box u a out.0 (λ b at related. (let had = wider_place box old i y b at in out.1 (spans a b tied related (of b (low.least b had) (high.greatest b had)))))) loses
+    (λ box i u a has out. no_second r x y lists box u a out.0 (λ b at related. (let had = wider_place box old i y b at in out.1 (spans a b related (of b (low.least b had) (high.greatest b had)))))) loses
 
-pub second_loses : (r : Relation) (x y : Term) (lists : List Tuples) (other own s : Span) (lo hi low high : ℤ) (old new : List (List ℤ)) → IsTied r → IsLeastAt old x lo → IsGreatestAt old x hi → IsLeastAt old y low → IsGreatestAt old y high
-    → ((a : ℤ) → lo ≤ℤ a → a ≤ℤ hi → IsIn other a) → ((b : ℤ) → low ≤ℤ b → b ≤ℤ high → IsIn own b) → ((a b : ℤ) → IsTied r → Related r a b → IsIn other a → IsIn own b → IsIn s b) → Loses (OutOf s y) old new → Loses (Unsupported lists (pair_of r x y)) old new
-second_loses r x y lists other own s lo hi low high old new tied is_lo is_hi is_low is_high of of_own spans loses =
+pub second_loses : (r : Relation) (x y : Term) (lists : List Tuples) (other own s : Span) (lo hi low high : ℤ) (old new : List (List ℤ)) → IsLeastAt old x lo → IsGreatestAt old x hi → IsLeastAt old y low → IsGreatestAt old y high
+    → ((a : ℤ) → lo ≤ℤ a → a ≤ℤ hi → IsIn other a) → ((b : ℤ) → low ≤ℤ b → b ≤ℤ high → IsIn own b) → ((a b : ℤ) → Related r a b → IsIn other a → IsIn own b → IsIn s b) → Loses (OutOf s y) old new → Loses (Unsupported lists (pair_of r x y)) old new
+second_loses r x y lists other own s lo hi low high old new is_lo is_hi is_low is_high of of_own spans loses =
     loses_so (OutOf s y) (Unsupported lists (pair_of r x y)) old new
     (λ box i u b has out. no_first r x y lists box u b out.0
     (λ a at related.
     (let had = wider_place box old i x a at in
     let itself = wider_place box old i y b (subst (λ t. PlaceHas box t b) out.0 has) in
-    out.1 (spans a b tied related (of a (is_lo.least a had) (is_hi.greatest a had)) (of_own b (is_low.least b itself) (is_high.greatest b itself)))))) loses
+    out.1 (spans a b related (of a (is_lo.least a had) (is_hi.greatest a had)) (of_own b (is_low.least b itself) (is_high.greatest b itself)))))) loses
 
 -- ---- constraints of one place
 

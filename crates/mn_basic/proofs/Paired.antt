@@ -20,39 +20,40 @@ use Rattle.mn_prop.specs.Passes.{HasAt, IsReady}
 use Rattle.mn_prop.proofs.Valued.{valued_at}
 use Rattle.mn_basic.specs.Pairs.{Related, SomeAt, pair_of}
 use Rattle.mn_basic.specs.declared.relation.Relation.{Relation}
-use Rattle.mn_basic.specs.declared.relation.Relation.TheVariants.{Equal, Differ, AtMost, Below, Opposite, Absolute}
+use Rattle.mn_basic.specs.declared.relation.Relation.TheVariants.{Differ, AtMost, Below, Tied}
+use Rattle.mn_basic.specs.declared.relation.Tie.TheVariants.{Equal, Opposite, Absolute}
 
 pub pair_level : (r : Relation) (x y : Term) → level (pair_of r x y) ≡ Arc
-pair_level Equal x y = refl
 pair_level Differ x y = refl
 pair_level (AtMost k) x y = refl
 pair_level Below x y = refl
-pair_level Opposite x y = refl
-pair_level Absolute x y = refl
+pair_level (Tied Equal) x y = refl
+pair_level (Tied Opposite) x y = refl
+pair_level (Tied Absolute) x y = refl
 
 pub pair_places : (r : Relation) (x y : Term) → places (pair_of r x y) ≡ x ∷ y ∷ []
-pair_places Equal x y = refl
 pair_places Differ x y = refl
 pair_places (AtMost k) x y = refl
 pair_places Below x y = refl
-pair_places Opposite x y = refl
-pair_places Absolute x y = refl
+pair_places (Tied Equal) x y = refl
+pair_places (Tied Opposite) x y = refl
+pair_places (Tied Absolute) x y = refl
 
 meets_related : (r : Relation) (x y : Term) (lists : List Tuples) (s : List ℤ) → Meets lists (pair_of r x y) s → Related r (at s 0) (at s 1)
-meets_related Equal x y lists s m = m
 meets_related Differ x y lists s m = m
 meets_related (AtMost k) x y lists s m = m
 meets_related Below x y lists s m = m
-meets_related Opposite x y lists s m = m
-meets_related Absolute x y lists s m = m
+meets_related (Tied Equal) x y lists s m = m
+meets_related (Tied Opposite) x y lists s m = m
+meets_related (Tied Absolute) x y lists s m = m
 
 related_meets : (r : Relation) (x y : Term) (lists : List Tuples) (s : List ℤ) → Related r (at s 0) (at s 1) → Meets lists (pair_of r x y) s
-related_meets Equal x y lists s m = m
 related_meets Differ x y lists s m = m
 related_meets (AtMost k) x y lists s m = m
 related_meets Below x y lists s m = m
-related_meets Opposite x y lists s m = m
-related_meets Absolute x y lists s m = m
+related_meets (Tied Equal) x y lists s m = m
+related_meets (Tied Opposite) x y lists s m = m
+related_meets (Tied Absolute) x y lists s m = m
 
 -- a value of x and one of y that stand in the relation
 pub record TwoRelated (r : Relation) (x y : Term) (i : ℕ) (a : ℤ) (box : List (List ℤ)) : Type 0 where

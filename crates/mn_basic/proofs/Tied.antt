@@ -17,7 +17,7 @@ use Rattle.mn_prop.specs.declared.context.Fail.{Fail}
 use Rattle.mn_prop.proofs.Ready.{ready_named}
 use Rattle.mn_prop.proofs.Stepping.{as_step, failing, inside_itself, then_step}
 use Rattle.mn_basic.specs.Narrowing.{AllIn, IsIn, Narrows}
-use Rattle.mn_basic.specs.Pairs.{IsTied, Related, pair_of}
+use Rattle.mn_basic.specs.Pairs.{Related, pair_of}
 use Rattle.mn_basic.specs.declared.relation.Relation.{Relation}
 use Rattle.mn_basic.specs.declared.span.Span.{Span}
 use Rattle.mn_basic.proofs.Ended.{greatest_of, least_of}
@@ -53,9 +53,9 @@ pub between : (s : Span) (low high a : ℤ) → IsIn s low → IsIn s high → l
 between s low high a one another from to = (let le = one.0 in omega (arith, ints, le, from), let le = another.1 in omega (arith, ints, le, to))
 
 -- what the ends of the other place leave
-pub first_narrows : (r : Relation) (x y : Term) (lists : List Tuples) (other s : Span) (lo hi : ℤ) (old new : Sets) (result : Result (Unit {0}) Fail) → IsTied r → IsReady old.vars lists (pair_of r x y) → IsLeastAt old.sets y lo → IsGreatestAt old.sets y hi
-    → ((b : ℤ) → lo ≤ℤ b → b ≤ℤ hi → IsIn other b) → ((a b : ℤ) → IsTied r → Related r a b → IsIn other b → IsIn s a) → IsStep (AllIn s x) old new result → Narrows (LeafClosed old.vars lists (pair_of r x y)) old new result
-first_narrows r x y lists other s lo hi old new result tied ready low high of spans step = narrows_as (AllIn s x) (LeafClosed old.vars lists (pair_of r x y)) old new result all step
+pub first_narrows : (r : Relation) (x y : Term) (lists : List Tuples) (other s : Span) (lo hi : ℤ) (old new : Sets) (result : Result (Unit {0}) Fail) → IsReady old.vars lists (pair_of r x y) → IsLeastAt old.sets y lo → IsGreatestAt old.sets y hi
+    → ((b : ℤ) → lo ≤ℤ b → b ≤ℤ hi → IsIn other b) → ((a b : ℤ) → Related r a b → IsIn other b → IsIn s a) → IsStep (AllIn s x) old new result → Narrows (LeafClosed old.vars lists (pair_of r x y)) old new result
+first_narrows r x y lists other s lo hi old new result ready low high of spans step = narrows_as (AllIn s x) (LeafClosed old.vars lists (pair_of r x y)) old new result all step
   where
     here : (box : List (List ℤ)) → Inside box old.sets → (b : ℤ) → PlaceHas box y b → IsIn other b
     here box i b has = let had = wider_place box old.sets i y b has in of b (low.least b had) (high.greatest b had)
@@ -67,12 +67,12 @@ first_narrows r x y lists other s lo hi old new result tied ready low high of sp
         let great = greatest_of (level (pair_of r x y)) old.vars box x is named in
         let one = first_partner r x y lists old.vars box least.value closed least.asked in
         let another = first_partner r x y lists old.vars box great.value closed great.asked in
-        between s least.value great.value a (spans least.value one.value tied one.has (here box i one.value one.there)) (spans great.value another.value tied another.has (here box i another.value another.there)) (least.least.least a has) (great.greatest.greatest a has)
+        between s least.value great.value a (spans least.value one.value one.has (here box i one.value one.there)) (spans great.value another.value another.has (here box i another.value another.there)) (least.least.least a has) (great.greatest.greatest a has)
 
-pub second_narrows : (r : Relation) (x y : Term) (lists : List Tuples) (other own s : Span) (lo hi low high : ℤ) (old new : Sets) (result : Result (Unit {0}) Fail) → IsTied r → IsReady old.vars lists (pair_of r x y) → IsLeastAt old.sets x lo → IsGreatestAt old.sets x hi → IsLeastAt old.sets y low
-    → IsGreatestAt old.sets y high → ((a : ℤ) → lo ≤ℤ a → a ≤ℤ hi → IsIn other a) → ((b : ℤ) → low ≤ℤ b → b ≤ℤ high → IsIn own b) → ((a b : ℤ) → IsTied r → Related r a b → IsIn other a → IsIn own b → IsIn s b) → IsStep (AllIn s y) old new result
+pub second_narrows : (r : Relation) (x y : Term) (lists : List Tuples) (other own s : Span) (lo hi low high : ℤ) (old new : Sets) (result : Result (Unit {0}) Fail) → IsReady old.vars lists (pair_of r x y) → IsLeastAt old.sets x lo → IsGreatestAt old.sets x hi → IsLeastAt old.sets y low
+    → IsGreatestAt old.sets y high → ((a : ℤ) → lo ≤ℤ a → a ≤ℤ hi → IsIn other a) → ((b : ℤ) → low ≤ℤ b → b ≤ℤ high → IsIn own b) → ((a b : ℤ) → Related r a b → IsIn other a → IsIn own b → IsIn s b) → IsStep (AllIn s y) old new result
     → Narrows (LeafClosed old.vars lists (pair_of r x y)) old new result
-second_narrows r x y lists other own s lo hi low high old new result tied ready is_lo is_hi is_low is_high of of_own spans step = narrows_as (AllIn s y) (LeafClosed old.vars lists (pair_of r x y)) old new result all step
+second_narrows r x y lists other own s lo hi low high old new result ready is_lo is_hi is_low is_high of of_own spans step = narrows_as (AllIn s y) (LeafClosed old.vars lists (pair_of r x y)) old new result all step
   where
     here : (box : List (List ℤ)) → Inside box old.sets → (a : ℤ) → PlaceHas box x a → IsIn other a
     here box i a has = let had = wider_place box old.sets i x a has in of a (is_lo.least a had) (is_hi.greatest a had)
@@ -87,7 +87,7 @@ second_narrows r x y lists other own s lo hi low high old new result tied ready 
         let great = greatest_of (level (pair_of r x y)) old.vars box y is named in
         let one = second_partner r x y lists old.vars box least.value closed least.asked in
         let another = second_partner r x y lists old.vars box great.value closed great.asked in
-        between s least.value great.value b (spans one.value least.value tied one.has (here box i one.value one.there) (itself box i least.value least.least.there)) (spans another.value great.value tied another.has (here box i another.value another.there) (itself box i great.value great.greatest.there))
+        between s least.value great.value b (spans one.value least.value one.has (here box i one.value one.there) (itself box i least.value least.least.there)) (spans another.value great.value another.has (here box i another.value another.there) (itself box i great.value great.greatest.there))
         (least.least.least b has) (great.greatest.greatest b has)
 
 pub ready_after : (lists : List Tuples) (c : Con) (old mid : Sets) → OnlyTakes old mid → IsReady old.vars lists c → IsReady mid.vars lists c

@@ -8,34 +8,26 @@ use Rattle.mn_boxes.specs.Places.{PlaceHas}
 use Rattle.mn_boxes.specs.Sets.{Variable}
 use Rattle.mn_basic.specs.Literals.{EachAsked}
 use Rattle.mn_basic.specs.declared.relation.Relation.{Relation}
-use Rattle.mn_basic.specs.declared.relation.Relation.TheVariants.{Equal, Differ, AtMost, Below, Opposite, Absolute}
+use Rattle.mn_basic.specs.declared.relation.Relation.TheVariants.{Differ, AtMost, Below, Tied}
+use Rattle.mn_basic.specs.declared.relation.Tie.TheVariants.{Equal, Opposite, Absolute}
 
 -- the constraint that says a relation of two places
 abbrev pub pair_of : Relation → Term → Term → Con
-pair_of Equal x y = con.Eq x y
 pair_of Differ x y = con.Diseq x y
 pair_of (AtMost k) x y = con.Ineq x y k
 pair_of Below x y = con.Watchless x y
-pair_of Opposite x y = con.Minuseq x y
-pair_of Absolute x y = con.Abs x y
+pair_of (Tied Equal) x y = con.Eq x y
+pair_of (Tied Opposite) x y = con.Minuseq x y
+pair_of (Tied Absolute) x y = con.Abs x y
 
 -- a and b stand in the relation
 abbrev pub Related : Relation → ℤ → ℤ → Type 0
-Related Equal a b = a ≡ b
 Related Differ a b = a ≢ b
 Related (AtMost k) a b = a ≤ℤ (b +ℤ k)
 Related Below a b = a <ℤ b
-Related Opposite a b = a ≡ neg_ℤ b
-Related Absolute a b = a ≡ pos (nat_abs b)
-
--- the second value tells the first
-abbrev pub IsTied : Relation → Type 0
-IsTied Equal = Unit {0}
-IsTied Differ = ⊥
-IsTied (AtMost k) = ⊥
-IsTied Below = ⊥
-IsTied Opposite = Unit {0}
-IsTied Absolute = Unit {0}
+Related (Tied Equal) a b = a ≡ b
+Related (Tied Opposite) a b = a ≡ neg_ℤ b
+Related (Tied Absolute) a b = a ≡ pos (nat_abs b)
 
 -- some value of the place has P
 pub record SomeAt (sets : List (List ℤ)) (t : Term) (P : ℤ → Type 0) : Type 0 where

@@ -9,7 +9,7 @@ ghost use Rattle.mn_basic.specs.Literals.{literal_of};
 use crate::literal::Literal;
 use crate::numbers::Numbers;
 use crate::pair::Pair;
-use crate::relation::Relation;
+use crate::relation::{Relation, Tie};
 use crate::whole::Whole;
 use mn_domains::Doms;
 use mn_model::{Con, Instance, Term};
@@ -50,12 +50,22 @@ impl<'a> Basic<'a> {
     {
         let lists = inst.tuples();
         match con {
-            Con::Eq(x, y) => Ok(Basic::Pair(Pair::new(Relation::Equal, *x, *y, lists))),
+            Con::Eq(x, y) => Ok(Basic::Pair(Pair::new(Relation::Tied(Tie::Equal), *x, *y, lists))),
             Con::Diseq(x, y) => Ok(Basic::Pair(Pair::new(Relation::Differ, *x, *y, lists))),
             Con::Ineq(x, y, k) => Ok(Basic::Pair(Pair::new(Relation::AtMost(*k), *x, *y, lists))),
             Con::Watchless(x, y) => Ok(Basic::Pair(Pair::new(Relation::Below, *x, *y, lists))),
-            Con::Minuseq(x, y) => Ok(Basic::Pair(Pair::new(Relation::Opposite, *x, *y, lists))),
-            Con::Abs(x, y) => Ok(Basic::Pair(Pair::new(Relation::Absolute, *x, *y, lists))),
+            Con::Minuseq(x, y) => Ok(Basic::Pair(Pair::new(
+                Relation::Tied(Tie::Opposite),
+                *x,
+                *y,
+                lists,
+            ))),
+            Con::Abs(x, y) => Ok(Basic::Pair(Pair::new(
+                Relation::Tied(Tie::Absolute),
+                *x,
+                *y,
+                lists,
+            ))),
             Con::WLiteral(x, k) => literal(alloc, inst, con, Numbers::Is(*k), *x),
             Con::WNotliteral(x, k) => literal(alloc, inst, con, Numbers::IsNot(*k), *x),
             Con::WInset(x, ks) => literal(alloc, inst, con, Numbers::Among(ks), *x),

@@ -28,6 +28,6 @@ pub use basic::Basic;
 pub use literal::Literal;
 pub use numbers::Numbers;
 pub use pair::Pair;
-pub use relation::Relation;
+pub use relation::{Relation, Tie};
 pub use std::alloc::AllocError as NoMemory;
 pub use whole::Whole;

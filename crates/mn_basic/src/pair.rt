@@ -48,9 +48,7 @@ impl<'a> Pair<'a> {
             Relation::Differ => keep_both_apart(c, self.x, self.y),
             Relation::AtMost(k) => put_in_order(c, self.x, self.y, k),
             Relation::Below => put_in_order(c, self.x, self.y, -1),
-            Relation::Equal => narrow_tied(self, c),
-            Relation::Opposite => narrow_tied(self, c),
-            Relation::Absolute => narrow_tied(self, c),
+            Relation::Tied(tie) => narrow_tied(self, tie, c),
         }
     }
 }

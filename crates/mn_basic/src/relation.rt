@@ -11,17 +11,24 @@ use mn_prop::Ctx;
 /// What is between the values of two places.
 #[derive(Clone, Copy, Debug, PartialEq, Eq)]
 pub enum Relation {
-    /// The first is the second.
-    Equal,
-    /// It isn't.
+    /// The first isn't the second.
     Differ,
     /// The first is at most the second plus a number.
     AtMost(i64),
     /// The first is less than the second.
     Below,
-    /// The first is the second with the other sign.
+    /// The second tells the first.
+    Tied(Tie),
+}
+
+/// What the second of two values tells of the first.
+#[derive(Clone, Copy, Debug, PartialEq, Eq)]
+pub enum Tie {
+    /// It is the second.
+    Equal,
+    /// It is the second with the other sign.
     Opposite,
-    /// The first is the second without its sign.
+    /// It is the second without its sign.
     Absolute,
 }
 
@@ -68,12 +75,12 @@ impl Relation {
         ensures { IsTrue result ↔ SomeAt c.now.doms.sets t (λ b. Related self a b) }
     {
         match self {
-            Relation::Equal => c.has(t, a),
             Relation::Differ => has_other(c, t, a),
             Relation::AtMost(k) => has_from(c, t, i128::from(a) - i128::from(k)),
             Relation::Below => has_from(c, t, i128::from(a) + 1),
-            Relation::Opposite => c.has(t, -a),
-            Relation::Absolute => has_unsigned(c, t, a),
+            Relation::Tied(Tie::Equal) => c.has(t, a),
+            Relation::Tied(Tie::Opposite) => c.has(t, -a),
+            Relation::Tied(Tie::Absolute) => has_unsigned(c, t, a),
         }
     }
 
@@ -84,12 +91,12 @@ impl Relation {
         ensures { IsTrue result ↔ SomeAt c.now.doms.sets t (λ b. Related self b a) }
     {
         match self {
-            Relation::Equal => c.has(t, a),
             Relation::Differ => has_other(c, t, a),
             Relation::AtMost(k) => has_to(c, t, i128::from(a) + i128::from(k)),
             Relation::Below => has_to(c, t, i128::from(a) - 1),
-            Relation::Opposite => c.has(t, -a),
-            Relation::Absolute => c.has(t, a.abs()),
+            Relation::Tied(Tie::Equal) => c.has(t, a),
+            Relation::Tied(Tie::Opposite) => c.has(t, -a),
+            Relation::Tied(Tie::Absolute) => c.has(t, a.abs()),
         }
     }
 }

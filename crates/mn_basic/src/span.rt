@@ -5,7 +5,7 @@ ghost use Rattle.mn_prop.specs.Contexts.{IsNamed};
 ghost use Rattle.mn_prop.specs.Losses.{Loses};
 ghost use Rattle.mn_prop.specs.Passes.{IsStep};
 
-use crate::relation::Relation;
+use crate::relation::Tie;
 use mn_model::Term;
 use mn_prop::{Ctx, Fail, cut_hi, cut_lo};
 
@@ -56,7 +56,8 @@ pub(crate) struct Span {
 impl Span {
     ghost use Rattle.mn_basic.specs.Losses.{OutOf};
     ghost use Rattle.mn_basic.specs.Narrowing.{AllIn, IsIn, IsSmall};
-    ghost use Rattle.mn_basic.specs.Pairs.{IsTied, Related};
+    ghost use Rattle.mn_basic.specs.Pairs.{Related};
+    ghost use Rattle.mn_basic.specs.declared.relation.Relation.TheVariants.{Tied};
 
     /// The numbers from one to another.
     pub(crate) fn of(lo: i64, hi: i64) -> Span
@@ -164,34 +165,28 @@ impl Span {
         }
     }
 
-    /// What stands in the relation to a number of the span.
-    pub(crate) fn first_of(self, relation: Relation) -> Span
+    /// What a number of the span tells, or more.
+    pub(crate) fn first_of(self, tie: Tie) -> Span
         requires { IsSmall self }
-        ensures { (a b : ℤ) → IsTied relation → Related relation a b → IsIn self b → IsIn result a }
+        ensures { (a b : ℤ) → Related (Tied tie) a b → IsIn self b → IsIn result a }
     {
-        match relation {
-            Relation::Opposite => self.opposite(),
-            Relation::Absolute => self.unsigned(),
-            Relation::Equal => self,
-            Relation::Differ => self,
-            Relation::AtMost(_) => self,
-            Relation::Below => self,
+        match tie {
+            Tie::Equal => self,
+            Tie::Opposite => self.opposite(),
+            Tie::Absolute => self.unsigned(),
         }
     }
 
-    /// What a number of the span stands in the relation to, and is in another span itself.
-    pub(crate) fn second_of(self, relation: Relation, own: Span) -> Span
+    /// What tells a number of the span and is in another span itself, or more.
+    pub(crate) fn second_of(self, tie: Tie, own: Span) -> Span
         requires small { IsSmall self }
         requires own { IsSmall own }
-        ensures { (a b : ℤ) → IsTied relation → Related relation a b → IsIn self a → IsIn own b → IsIn result b }
+        ensures { (a b : ℤ) → Related (Tied tie) a b → IsIn self a → IsIn own b → IsIn result b }
     {
-        match relation {
-            Relation::Opposite => self.opposite(),
-            Relation::Absolute => self.signed(own),
-            Relation::Equal => self,
-            Relation::Differ => self,
-            Relation::AtMost(_) => self,
-            Relation::Below => self,
+        match tie {
+            Tie::Equal => self,
+            Tie::Opposite => self.opposite(),
+            Tie::Absolute => self.signed(own),
         }
     }
 

@@ -8,7 +8,7 @@ ghost use Rattle.mn_model.specs.declared.constraint.Term.TheVariants.{Const};
 ghost use Rattle.mn_closure.specs.Laws.{declared_sets};
 ghost use Rattle.mn_basic.specs.Pairs.{pair_of};
 
-use crate::{Pair, Relation};
+use crate::{Pair, Relation, Tie};
 use mn_domains::Doms;
 use mn_model::{Dims, Domain, Instance, Kind, Term, Text, VARIABLES, VarId};
 use mn_prop::{Ctx, Fail};
@@ -76,11 +76,9 @@ fn is_small(relation: Relation) -> bool
 {
     match relation {
         Relation::AtMost(k) => -1_000_000_000 <= k && k <= 1_000_000_000,
-        Relation::Equal => true,
         Relation::Differ => true,
         Relation::Below => true,
-        Relation::Opposite => true,
-        Relation::Absolute => true,
+        Relation::Tied(_) => true,
     }
 }
 
@@ -138,14 +136,21 @@ fn passes_take_what_is_not_supported(rt: HostRuntime) -> Result<(), Failure> {
             (0, 1),
         ),
         (
-            Relation::Equal,
+            Relation::Tied(Tie::Equal),
             Term::Const(1),
             Term::Const(2),
             failed,
             x,
             (0, 1),
         ),
-        (Relation::Equal, Term::Var(d), Term::Var(x), done, d, (0, 1)),
+        (
+            Relation::Tied(Tie::Equal),
+            Term::Var(d),
+            Term::Var(x),
+            done,
+            d,
+            (0, 1),
+        ),
         (Relation::Below, Term::Var(d), Term::Var(x), done, d, (0, 0)),
         // Two cuts, whatever the span.
         (
@@ -165,7 +170,7 @@ fn passes_take_what_is_not_supported(rt: HostRuntime) -> Result<(), Failure> {
             (-m, n),
         ),
         (
-            Relation::Opposite,
+            Relation::Tied(Tie::Opposite),
             Term::Var(y),
             Term::Const(-7),
             done,
@@ -173,7 +178,7 @@ fn passes_take_what_is_not_supported(rt: HostRuntime) -> Result<(), Failure> {
             (7, 7),
         ),
         (
-            Relation::Absolute,
+            Relation::Tied(Tie::Absolute),
             Term::Var(y),
             Term::Var(z),
             done,

@@ -1,5 +1,6 @@
-use Rattle.std.proofs.Common.{FitsSigned, rules, w64}
+use Rattle.std.proofs.Common.{FitsSigned, rules, subst, w64}
 use Rattle.std.proofs.lemmas.Int.{to_z-of_z}
+use Rattle.mn_basic.specs.Pairs.{Related}
 use Rattle.mn_basic.proofs.Lost.{first_loses}
 use Rattle.mn_basic.proofs.Ordered.{pair_named}
 use Rattle.mn_basic.proofs.Tied.{first_narrows}
@@ -16,13 +17,13 @@ returns-clause-step c =
     let p = c.args.p.now in
     let lo : FitsSigned w64 c.lo.result = search rules in
     let hi : FitsSigned w64 c.hi.result = search rules in
-    first_narrows p.relation p.x p.y p.lists.now c.of-other.result c.first_of.result c.lo.result c.hi.result c.args.c.now.doms c.keep.new.c.doms c.keep.result c.requires.tied c.requires.ready c.lo.ensures.least c.hi.ensures.greatest
-    (rw (to_z-of_z w64 c.lo.result lo, to_z-of_z w64 c.hi.result hi) at c.of-other.ensures.all) c.first_of.ensures c.keep.ensures.step
+    first_narrows p.relation p.x p.y p.lists.now c.of-other.result c.first_of.result c.lo.result c.hi.result c.args.c.now.doms c.keep.new.c.doms c.keep.result c.requires.ready c.lo.ensures.least c.hi.ensures.greatest
+    (rw (to_z-of_z w64 c.lo.result lo, to_z-of_z w64 c.hi.result hi) at c.of-other.ensures.all) (λ a b related. c.first_of.ensures a b (subst (λ r. Related r a b) c.requires.tied related)) c.keep.ensures.step
 
 pub returns-clause-loses : goal.returns-clause-loses
 returns-clause-loses c =
     let p = c.args.p.now in
     let lo : FitsSigned w64 c.lo.result = search rules in
     let hi : FitsSigned w64 c.hi.result = search rules in
-    first_loses p.relation p.x p.y p.lists.now c.of-other.result c.first_of.result c.lo.result c.hi.result c.args.c.now.doms.sets c.keep.new.c.doms.sets c.requires.tied c.lo.ensures.least c.hi.ensures.greatest
-    (rw (to_z-of_z w64 c.lo.result lo, to_z-of_z w64 c.hi.result hi) at c.of-other.ensures.all) c.first_of.ensures c.keep.ensures.loses
+    first_loses p.relation p.x p.y p.lists.now c.of-other.result c.first_of.result c.lo.result c.hi.result c.args.c.now.doms.sets c.keep.new.c.doms.sets c.lo.ensures.least c.hi.ensures.greatest
+    (rw (to_z-of_z w64 c.lo.result lo, to_z-of_z w64 c.hi.result hi) at c.of-other.ensures.all) (λ a b related. c.first_of.ensures a b (subst (λ r. Related r a b) c.requires.tied related)) c.keep.ensures.loses

@@ -1,5 +1,6 @@
-use Rattle.std.proofs.Common.{FitsSigned, rules, w64}
+use Rattle.std.proofs.Common.{FitsSigned, rules, subst, w64}
 use Rattle.std.proofs.lemmas.Int.{to_z-of_z}
+use Rattle.mn_basic.specs.Pairs.{Related}
 use Rattle.mn_basic.proofs.Lost.{second_loses}
 use Rattle.mn_basic.proofs.Ordered.{pair_named}
 use Rattle.mn_basic.proofs.Tied.{second_narrows}
@@ -24,9 +25,9 @@ returns-clause-step c =
     let hi : FitsSigned w64 c.hi.result = search rules in
     let low : FitsSigned w64 c.lo-2.result = search rules in
     let high : FitsSigned w64 c.hi-2.result = search rules in
-    second_narrows p.relation p.x p.y p.lists.now c.of-other.result c.of-own.result c.second_of.result c.lo.result c.hi.result c.lo-2.result c.hi-2.result c.args.c.now.doms c.keep.new.c.doms c.keep.result c.requires.tied c.requires.ready
+    second_narrows p.relation p.x p.y p.lists.now c.of-other.result c.of-own.result c.second_of.result c.lo.result c.hi.result c.lo-2.result c.hi-2.result c.args.c.now.doms c.keep.new.c.doms c.keep.result c.requires.ready
     c.lo.ensures.least c.hi.ensures.greatest c.lo-2.ensures.least c.hi-2.ensures.greatest (rw (to_z-of_z w64 c.lo.result lo, to_z-of_z w64 c.hi.result hi) at c.of-other.ensures.all)
-    (rw (to_z-of_z w64 c.lo-2.result low, to_z-of_z w64 c.hi-2.result high) at c.of-own.ensures.all) c.second_of.ensures c.keep.ensures.step
+    (rw (to_z-of_z w64 c.lo-2.result low, to_z-of_z w64 c.hi-2.result high) at c.of-own.ensures.all) (λ a b related. c.second_of.ensures a b (subst (λ r. Related r a b) c.requires.tied related)) c.keep.ensures.step
 
 pub returns-clause-loses : goal.returns-clause-loses
 returns-clause-loses c =
@@ -35,6 +36,6 @@ returns-clause-loses c =
     let hi : FitsSigned w64 c.hi.result = search rules in
     let low : FitsSigned w64 c.lo-2.result = search rules in
     let high : FitsSigned w64 c.hi-2.result = search rules in
-    second_loses p.relation p.x p.y p.lists.now c.of-other.result c.of-own.result c.second_of.result c.lo.result c.hi.result c.lo-2.result c.hi-2.result c.args.c.now.doms.sets c.keep.new.c.doms.sets c.requires.tied
+    second_loses p.relation p.x p.y p.lists.now c.of-other.result c.of-own.result c.second_of.result c.lo.result c.hi.result c.lo-2.result c.hi-2.result c.args.c.now.doms.sets c.keep.new.c.doms.sets
     c.lo.ensures.least c.hi.ensures.greatest c.lo-2.ensures.least c.hi-2.ensures.greatest (rw (to_z-of_z w64 c.lo.result lo, to_z-of_z w64 c.hi.result hi) at c.of-other.ensures.all)
-    (rw (to_z-of_z w64 c.lo-2.result low, to_z-of_z w64 c.hi-2.result high) at c.of-own.ensures.all) c.second_of.ensures c.keep.ensures.loses
+    (rw (to_z-of_z w64 c.lo-2.result low, to_z-of_z w64 c.hi-2.result high) at c.of-own.ensures.all) (λ a b related. c.second_of.ensures a b (subst (λ r. Related r a b) c.requires.tied related)) c.keep.ensures.loses
