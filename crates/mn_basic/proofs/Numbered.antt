@@ -25,6 +25,7 @@ use Rattle.mn_basic.specs.Trials.{is_pair}
 use Rattle.mn_basic.specs.declared.numbers.Numbers.{Numbers}
 use Rattle.mn_basic.specs.declared.numbers.Numbers.TheVariants.{Is, IsNot, Among, NotAmong, Between, NotBetween, Within}
 use Rattle.mn_basic.specs.declared.span.Span.{Span}
+use Rattle.mn_basic.proofs.Alone.{same_term}
 use Rattle.mn_basic.proofs.Ended.{greatest_of, least_of}
 use Rattle.mn_basic.proofs.Tied.{between, narrows_as}
 
@@ -97,12 +98,9 @@ literal_closed n x lists vars box each = record { bare = λ none. absurd (filled
     filled : x ∷ [] ≡ [] → ⊥
     filled e = cc
 
-    same_term : (t : Term) → StandsAt (literal_of n x) 0 t → StandsAt (literal_of n x) 0 x → t ≡ x
-    same_term t one another = cc
-
     stands_at : (i : ℕ) (t : Term) (a : ℤ) → StandsAt (literal_of n x) i t → Asked (level (literal_of n x)) vars box t a → Supported lists (literal_of n x) i a box
     stands_at zero t a stands asked =
-        let own : Asked (level (literal_of n x)) vars box x a = subst (λ u. Asked (level (literal_of n x)) vars box u a) (same_term t stands (literal_stands n x)) asked in
+        let own : Asked (level (literal_of n x)) vars box x a = subst (λ u. Asked (level (literal_of n x)) vars box u a) (same_term (literal_of n x) 0 t x stands (literal_stands n x)) asked in
         one_supported n x lists a box own.there (each a (subst (λ l. Asked l vars box x a) (literal_level n x) own))
     stands_at (suc i) t a stands asked = absurd (past (subst (λ ts. slice_get ts (suc i) ≡ Some t) (literal_places n x) stands))
       where
