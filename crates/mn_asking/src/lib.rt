@@ -17,5 +17,3 @@ mod searching;
 
 pub use searching::{search, search_law};
 
-#[cfg(test)]
-mod tests;

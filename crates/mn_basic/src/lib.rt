@@ -18,8 +18,6 @@ mod pair;
 mod placing;
 mod relation;
 mod span;
-#[cfg(test)]
-mod tests;
 mod tie;
 mod trial;
 mod whole;

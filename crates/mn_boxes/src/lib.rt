@@ -11,8 +11,6 @@
 mod change;
 mod kind;
 mod laws;
-#[cfg(test)]
-mod tests;
 
 pub use change::Moved;
 pub use kind::is_bounded;

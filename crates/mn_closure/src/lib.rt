@@ -9,8 +9,6 @@
 #![tactic(auto)]
 
 mod laws;
-#[cfg(test)]
-mod tests;
 
 pub use laws::{
     closure_is_unique, joins_are_closed, lawful_constraints_suit, negations_are_denied,

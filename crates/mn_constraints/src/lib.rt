@@ -14,7 +14,5 @@ mod nested;
 mod numbers;
 mod section;
 mod tables;
-#[cfg(test)]
-mod tests;
 
 pub use section::constraints;

@@ -25,7 +25,3 @@ pub use mn_cursor::{Cursor, First, Head, Seen, head_of};
 pub use mn_references::{Bounds, Unfit, Want, reference, reference_law};
 pub use tuplelists::{tuplelist, tuplelist_law};
 
-#[cfg(test)]
-mod reference_tests;
-#[cfg(test)]
-mod tests;

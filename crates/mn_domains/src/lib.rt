@@ -15,8 +15,6 @@ mod listed;
 mod marked;
 mod shape;
 mod state;
-#[cfg(test)]
-mod tests;
 
 pub use doms::{Doms, Emptied};
 pub use mn_boxes::Moved;

@@ -9,8 +9,6 @@
 
 mod engine;
 mod rounds;
-#[cfg(test)]
-mod tests;
 
 pub use engine::{Engine, Failed};
 pub use mn_prop::Make;

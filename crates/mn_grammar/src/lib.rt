@@ -123,5 +123,3 @@ pub fn one_verdict<X, V>()
     ensures one { OneVerdict X V }
 {}
 
-#[cfg(test)]
-mod tests;

@@ -157,20 +157,3 @@ pub fn arguments_of(leaf: Leaf) -> &'static [Argument]
         Leaf::Always | Leaf::Never => &[],
     }
 }
-
-#[cfg(test)]
-mod tests {
-    use super::*;
-    use std::test::Fail;
-
-    #[test]
-    fn words(rt: HostRuntime) -> Result<(), Fail> {
-        for form in FORMS {
-            assert_eq!(rt; form_of(form_text(form)), Some(form));
-        }
-        assert_eq!(rt; form_of(b"gacalldiff".as_slice()), None);
-        assert_eq!(rt; arguments_of(Leaf::Always).len(), 0);
-        assert_eq!(rt; arguments_of(Leaf::Hamming).len(), 3);
-        Ok(())
-    }
-}

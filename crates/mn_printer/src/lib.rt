@@ -16,7 +16,5 @@ mod page;
 mod search;
 mod sections;
 mod tables;
-#[cfg(test)]
-mod tests;
 
 pub use sections::{PrintFault, print};

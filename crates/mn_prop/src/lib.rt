@@ -14,8 +14,6 @@ mod laws;
 mod leaf;
 mod runner;
 mod sweeps;
-#[cfg(test)]
-mod tests;
 
 pub use context::{Ctx, Fail};
 pub use cuts::{cut_hi, cut_lo};

@@ -12,8 +12,6 @@
 mod laws;
 mod search;
 mod stack;
-#[cfg(test)]
-mod tests;
 mod tree;
 mod turns;
 
