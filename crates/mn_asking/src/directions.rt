@@ -1,3 +1,4 @@
+//! VALORDER: a direction for each variable of the order.
 ghost use Rattle.std.specs.Prelude.{◌≡◌, ◌<◌, [], length, None, IfOk};
 ghost use Rattle.mn_grammar.specs.Gives.{Gives};
 ghost use Rattle.mn_grammar.specs.Lists.{items_at, turn_at};

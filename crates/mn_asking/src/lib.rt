@@ -16,4 +16,3 @@ mod printing;
 mod searching;
 
 pub use searching::{search, search_law};
-

@@ -1,3 +1,4 @@
+//! VARORDER: the variables that the search takes first.
 ghost use Rattle.std.specs.Prelude.{◌≡◌, ◌++◌, ◌<◌, [], length, true, None, IfOk, OnOk};
 ghost use Rattle.mn_grammar.specs.Gives.{Gives};
 ghost use Rattle.mn_grammar.specs.Lists.{items_at, turn_at};

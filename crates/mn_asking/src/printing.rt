@@ -1,3 +1,4 @@
+//! PRINT: the rows that are printed of a solution.
 ghost use Rattle.std.specs.Prelude.{◌≡◌, ◌++◌, ◌<◌, [], None, IfOk, OnOk};
 ghost use Rattle.mn_grammar.specs.Gives.{Gives};
 ghost use Rattle.mn_grammar.specs.Lists.{items_at, turn_at};

@@ -1,3 +1,4 @@
+//! The items on how to search, one after another, up to the next head.
 ghost use Rattle.std.specs.Prelude.{◌≡◌, ◌<◌, ◌≤◌, false, true, length, replicate, Ok, Some, IfErr, IfOk, OnOk};
 ghost use Rattle.std.specs.Option.{option_map};
 ghost use Rattle.mn_grammar.specs.Gives.{Gives, Stops};

@@ -1,4 +1,4 @@
-// The block: the words in use, and spare room behind them.
+//! The block: the words in use, and spare room after them.
 ghost use Rattle.std.specs.Prelude.{◌≡◌, ℕ, ◌+◌, ◌-◌, ◌^◌, ◌<◌, ◌≤◌, [], ◌∷◌, ◌++◌, length, take, replicate, slice_index, slice_index_or, slice_set, is_ok, IfOk, All, nat_lt, if◌then◌else◌};
 
 use crate::stack::Stack;

@@ -1,4 +1,4 @@
-// The owner of a row of words: all raw pointers of this crate are here.
+//! The owner of a row of words: all raw pointers of this crate are here.
 ghost use Rattle.std.specs.Prelude.{◌≡◌, ℕ, List, [], length, replicate, IfSome};
 ghost use Rattle.std.specs.Borrow.{Array, full_share, lent_at, sem, u64};
 ghost use Rattle.std.specs.Ptr.{Ptr, lies_at, room_for};

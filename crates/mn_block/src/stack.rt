@@ -1,4 +1,4 @@
-// The saved copies.
+//! The saved copies of a block, the last one on top.
 ghost use Rattle.std.specs.Prelude.{◌≡◌, ◌==◌, ◌-◌, ◌<◌, [], ◌∷◌, ◌++◌, length, take, is_ok, if◌then◌else◌, slice_get};
 
 use crate::words::Words;

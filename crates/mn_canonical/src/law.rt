@@ -1,3 +1,4 @@
+//! The law that the canonical text of an instance is read as that instance. The function does nothing.
 ghost use Rattle.mn_canonical.specs.Law.{CanonicalTextsAreRead};
 
 use mn_pieces::{numbers_are_read, spaced_pieces_are_tokens};

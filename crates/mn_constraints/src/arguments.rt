@@ -1,3 +1,4 @@
+//! The arguments of a form: terms, vectors, numbers, lists of numbers, and tables.
 ghost use Rattle.std.specs.Prelude.{◌≡◌, ◌∷◌, [], false, List, IfOk};
 ghost use Rattle.mn_cursor.specs.Progress.{rest, Moves};
 ghost use Rattle.mn_grammar.specs.Gives.{Gives};

@@ -1,3 +1,4 @@
+//! Constraints that have no others inside: the arguments of a form, and what they stand for together.
 ghost use Rattle.std.specs.Prelude.{◌≡◌, ◌<◌, ◌≤◌, ◌++◌, ◌∷◌, [], length, IfErr, IfOk};
 ghost use Rattle.mn_cursor.specs.Progress.{rest, Moves};
 ghost use Rattle.mn_grammar.specs.Gives.{Gives};

@@ -1,3 +1,4 @@
+//! Constraints inside constraints, as deep as the limit allows.
 ghost use Rattle.std.specs.Prelude.{◌≡◌, ℕ, ◌+◌, ◌<◌, ◌≤◌, [], None, IfOk, IfSome};
 ghost use Rattle.mn_cursor.specs.Looks.{first_as, terminal_of, Sees};
 ghost use Rattle.mn_cursor.specs.Progress.{rest, Moves};

@@ -1,3 +1,4 @@
+//! Lists of numbers, and the two ends of a range.
 ghost use Rattle.std.specs.Prelude.{◌≡◌, ◌≤◌, [], ◌∷◌, length, drop, take, IfOk, OnOk};
 ghost use Rattle.mn_cursor.specs.Progress.{rest, Moves};
 ghost use Rattle.mn_grammar.specs.Gives.{Gives};

@@ -1,3 +1,4 @@
+//! The section of constraints, up to the next head.
 ghost use Rattle.std.specs.Prelude.{◌≡◌, leb, length, is_some, IfErr, OnOk};
 ghost use Rattle.mn_cursor.specs.Heads.{head_of};
 ghost use Rattle.mn_cursor.specs.Looks.{first_as};

@@ -1,3 +1,4 @@
+//! Tables: tuples written out, or the name of a tuple list.
 ghost use Rattle.std.specs.Prelude.{◌≡◌, ◌<◌, [], length, drop, take, IfNone, IfOk, OnOk};
 ghost use Rattle.mn_cursor.specs.Looks.{Sees};
 ghost use Rattle.mn_cursor.specs.Progress.{rest, Moves};

@@ -1,3 +1,5 @@
+//! Which items on how to search a text has had.
+
 /// Which items on how to search a text has had; each may stand once.
 #[derive(Clone, Copy, Debug, PartialEq, Eq)]
 pub struct Asked {

@@ -1,3 +1,4 @@
+//! A text's tokens, the place in them, and the instance so far.
 ghost use Rattle.std.specs.Prelude.{◌≡◌, ◌+◌, ◌<◌, ◌≤◌, ◌-◌, [], ◌∷◌, ◌++◌, length, drop, map, slice_get, Some, None, All, IfNone, IfOk, IfSome, OnErr, OnOk};
 ghost use Rattle.std.specs.Option.{option_map};
 ghost use Rattle.mn_lexer.specs.Reading.{IsLexed, IsTokenOf, bytes_of};

@@ -1,3 +1,4 @@
+//! The heads of sections.
 ghost use Rattle.std.specs.Prelude.{◌≡◌};
 ghost use Rattle.mn_lexer.specs.Terminals.{head};
 ghost use Rattle.mn_cursor.specs.Heads.{head_of};

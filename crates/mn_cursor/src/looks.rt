@@ -1,3 +1,4 @@
+//! What stands at the place of a cursor, and reading one token of a wanted sort.
 ghost use Rattle.std.specs.Prelude.{◌≡◌, ◌<◌, [], slice_get, Some, None, drop, IfOk, IfSome, OnOk, IsTrue, true, is_some};
 ghost use Rattle.std.specs.Option.{option_map};
 ghost use Rattle.mn_lexer.specs.Forms.{HasForm};

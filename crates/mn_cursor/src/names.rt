@@ -1,3 +1,4 @@
+//! Names as strings and as texts.
 ghost use Rattle.std.specs.Prelude.{◌≡◌, IfOk};
 ghost use Rattle.mn_model.specs.Name.{IsName};
 

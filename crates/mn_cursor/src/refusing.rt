@@ -1,3 +1,4 @@
+//! What a text is told that is refused: from what stopped its reading to a refusal at a byte.
 ghost use Rattle.std.specs.Prelude.{◌≡◌};
 ghost use Rattle.mn_cursor.specs.Progress.{byte_of, end_of, refusal_at, refusal_by, which_of_limit};
 

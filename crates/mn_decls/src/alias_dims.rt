@@ -1,3 +1,4 @@
+//! The dimensions of an alias.
 ghost use Rattle.std.specs.Prelude.{◌≡◌, ◌≤◌, length, pos, IfOk};
 ghost use Rattle.std.specs.List.{AllByRecursion};
 ghost use Rattle.mn_grammar.specs.Gives.{Gives};

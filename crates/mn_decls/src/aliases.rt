@@ -1,3 +1,4 @@
+//! Aliases: further names of variables and of matrices of them.
 ghost use Rattle.std.specs.Prelude.{◌≡◌, ◌≤◌, [], length, None, Ok, IfErr, IfOk, OnOk};
 ghost use Rattle.std.specs.List.{AllByRecursion};
 ghost use Rattle.mn_grammar.specs.Gives.{Stops};

@@ -1,3 +1,4 @@
+//! The nested brackets of an alias with dimensions, read in a loop.
 ghost use Rattle.std.specs.Prelude.{◌≡◌, ◌<◌, ◌≤◌, ◌∷◌, ◌++◌, [], true, leb, length, None, Ok, Some, IfErr, IfOk, OnOk};
 ghost use Rattle.mn_grammar.specs.Gives.{Gives, Stops};
 ghost use Rattle.mn_grammar.specs.Places.{when};

@@ -1,3 +1,4 @@
+//! The section of variables: declarations and aliases, up to the next head.
 ghost use Rattle.std.specs.Prelude.{◌≡◌, ℕ, ◌+◌, ◌*◌, ◌<◌, ◌≤◌, ◌≤ℤ◌, pos, true, false, List, ℤ, [], ◌∷◌, None, Some, Ok, length, drop, is_some, IfOk, IfErr, IfSome, OnOk};
 ghost use Rattle.std.proofs.Common.{inl};
 ghost use Rattle.std.specs.List.{AllByRecursion};

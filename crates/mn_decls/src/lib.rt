@@ -24,4 +24,3 @@ pub use declaring::{variables, variables_law};
 pub use mn_cursor::{Cursor, First, Head, Seen, head_of};
 pub use mn_references::{Bounds, Unfit, Want, reference, reference_law};
 pub use tuplelists::{tuplelist, tuplelist_law};
-

@@ -1,3 +1,4 @@
+//! Names that aren't declared yet, and references where one variable is wanted.
 ghost use Rattle.std.specs.Prelude.{◌≡◌, ◌||◌, false, None, is_some, IfErr, IfOk};
 ghost use Rattle.mn_grammar.specs.Gives.{Gives, Stops};
 ghost use Rattle.mn_grammar.specs.Reading.{name_at};

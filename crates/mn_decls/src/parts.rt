@@ -1,3 +1,4 @@
+//! The parts of a domain in braces: single values and stretches, in ascending order.
 ghost use Rattle.std.specs.Prelude.{◌≡◌, ◌≤◌, ◌≤ℤ◌, [], length, None, IfOk};
 ghost use Rattle.std.specs.List.{AllByRecursion};
 ghost use Rattle.mn_grammar.specs.Gives.{Gives};

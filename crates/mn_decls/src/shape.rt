@@ -1,3 +1,4 @@
+//! Dimensions, with how many places they make kept beside them.
 ghost use Rattle.std.specs.Prelude.{◌≡◌, ◌*◌, ◌≤◌, [], ◌∷◌, ◌++◌, OnOk, OnErr};
 ghost use Rattle.mn_model.specs.Problem.{size_of_dims};
 ghost use Rattle.mn_model.specs.declared.limits.TheConstants.{VARIABLES};

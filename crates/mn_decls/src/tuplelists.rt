@@ -1,3 +1,4 @@
+//! The section of tuple lists, up to the next head.
 ghost use Rattle.std.specs.Prelude.{◌≡◌, ℕ, ◌⊎◌, ◌||◌, ◌+◌, ◌<◌, ◌≤◌, ◌≤ℤ◌, ◌*ℤ◌, pos, true, false, List, ℤ, [], ◌∷◌, None, Some, Ok, length, drop, is_some, IfOk, IfErr, OnOk};
 ghost use Rattle.std.specs.List.{AllByRecursion};
 ghost use Rattle.std.specs.Str.{bytes_eq};

@@ -1,3 +1,4 @@
+//! The values of a sparse domain as they are read: ascending, without repeats.
 ghost use Rattle.std.specs.Prelude.{◌≡◌, ◌≤◌, ◌≤ℤ◌, ◌-ℤ◌, ◌+ℤ◌, pos, [], ◌++◌, length, take, drop, filter, int_le, int_lt, IfOk, OnOk};
 ghost use Rattle.std.specs.List.{AllByRecursion};
 ghost use Rattle.mn_model.specs.Domain.{Ascends, IsValue, stretch};

@@ -122,4 +122,3 @@ pub fn one_verdict<X, V>()
     ensures some { SomeVerdict X V }
     ensures one { OneVerdict X V }
 {}
-

@@ -1,3 +1,4 @@
+//! What is wanted at a place, and the kind of a refusal of what stands there instead.
 ghost use Rattle.std.specs.Prelude.{◌≡◌, List, ◌∷◌};
 ghost use Rattle.mn_lexer.specs.Terminals.{Terminal, head, terminal};
 ghost use Rattle.mn_grammar.specs.Reading.{kind_at};

@@ -1,3 +1,4 @@
+//! The law that the reader of a section of constraints is lawful. The function does nothing.
 ghost use Rattle.mn_grammar.specs.Lawful.{Lawful};
 ghost use Rattle.mn_model.specs.Problem.{Problem};
 ghost use Rattle.mn_language.specs.Constraints.{constraints_spec};

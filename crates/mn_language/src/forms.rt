@@ -1,3 +1,5 @@
+//! The forms of constraints, and the kinds of arguments that they take.
+
 /// A form of constraint that has no others inside.
 #[derive(Clone, Copy, Debug, PartialEq, Eq)]
 pub enum Leaf {

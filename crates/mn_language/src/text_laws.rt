@@ -1,3 +1,4 @@
+//! Laws of whole texts: what each stands for is unique, and each has one verdict. The functions do nothing.
 ghost use Rattle.std.specs.Prelude.{◌≡◌, List, ℕ, Result};
 ghost use Rattle.mn_model.specs.Problem.{Problem};
 ghost use Rattle.mn_model.specs.declared.refusal.Refusal.{Refusal};

@@ -1,3 +1,4 @@
+//! What arguments stand for, and the constraint that a form makes of them.
 ghost use Rattle.std.specs.Prelude.{◌≡◌, ◌∷◌, [], Some};
 ghost use Rattle.mn_language.specs.Arguments.{number_in, numbers_in, term_of, terms_in, tuples_in};
 ghost use Rattle.mn_language.specs.Constraints.{meaning};

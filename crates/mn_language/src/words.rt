@@ -1,3 +1,4 @@
+//! The word of each form, and the arguments that it takes.
 ghost use Rattle.std.specs.Prelude.{◌≡◌};
 ghost use Rattle.mn_grammar.specs.Reading.{which_of};
 ghost use Rattle.mn_lexer.specs.Terminals.{word};

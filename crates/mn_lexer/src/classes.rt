@@ -1,4 +1,4 @@
-// The classes of bytes, by what they begin. `Letter` has `_` too, and `Mark` the marks of one byte.
+//! The classes of bytes, by what they begin. `Letter` has `_` too, and `Mark` the marks of one byte.
 ghost use Rattle.std.specs.Prelude.{◌≡◌, IsTrue};
 ghost use Rattle.mn_lexer.specs.Bytes.{is_word_byte};
 ghost use Rattle.mn_lexer.specs.FirstBytes.{is_of_class};

@@ -1,4 +1,4 @@
-// What stands at the front of the rest of a text: the longest token, or what is left of a comment.
+//! What the rest of a text begins with: the longest token, or what is left of a comment.
 ghost use Rattle.std.specs.Prelude.{◌≡◌, ◌<◌, length, take, drop, slice_index, IsTrue, MatchOption};
 ghost use Rattle.std.specs.Char.{is_ascii_digit, is_ascii_uppercase};
 ghost use Rattle.std.specs.List.{prefix_len, position_or_len};

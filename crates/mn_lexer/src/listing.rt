@@ -1,3 +1,4 @@
+//! Tokens in order, eight bytes each.
 ghost use Rattle.std.specs.Prelude.{◌≡◌, ◌<◌, length, [], ◌∷◌, ◌++◌, OnOk, OnErr, slice_get};
 
 use super::{NoMemory, Token, TokenKind};

@@ -1,3 +1,4 @@
+//! The marks of the language, and which of them a token is.
 ghost use Rattle.std.specs.Prelude.{◌≡◌};
 ghost use Rattle.mn_lexer.specs.Forms.{IsMark};
 ghost use Rattle.mn_lexer.specs.Marks.{mark_of};

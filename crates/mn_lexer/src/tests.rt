@@ -1,3 +1,4 @@
+//! Texts cut into tokens, with what stops them; the values of numbers; long words and long lists.
 ghost use Rattle.std.specs.Prelude.{All};
 ghost use Rattle.mn_lexer.specs.Reading.{IsTokenOf};
 

@@ -1,5 +1,5 @@
-// The lists as circles of nodes. Node `k` is trigger `k`, and node `triggers + l` is the head of list
-// `l`. Each list is a circle through its head, so a move is the same at each place of a list.
+//! The lists as circles of nodes. Node `k` is trigger `k`, and node `triggers + l` is the head of list
+//! `l`. Each list is a circle through its head, so a move is the same at each place of a list.
 ghost use Rattle.std.specs.Prelude.{◌≡◌, ◌+◌, ◌^◌, ◌<◌, [], None, Some, IsSome, IfOk, IfSome, length, slice_get, slice_index_or, drop};
 ghost use Rattle.std.specs.Option.{option_map};
 ghost use Rattle.mn_lists.specs.Circles.{skip};

@@ -1,4 +1,4 @@
-// The lists of triggers and the two queues.
+//! The lists of triggers, a walk along one of them, and the two queues.
 ghost use Rattle.std.specs.Prelude.{◌≡◌, ◌<◌, [], ◌++◌, None, Some, IsNone, IsSome, IfOk, IfSome, drop, length, slice_get, slice_index_or};
 ghost use Rattle.std.specs.Option.{option_map, option_to_list};
 ghost use Rattle.mn_lists.specs.Standing.{EachOnOneList, MovesOnly, ahead, as_made, count_of, moved_to, pushed, without};

@@ -1,4 +1,4 @@
-// A first-in first-out queue of numbers, in which each number stands at most once.
+//! A first-in first-out queue of numbers, in which each number stands at most once.
 ghost use Rattle.std.specs.Prelude.{◌≡◌, ◌<◌, [], IfOk, IfSome, drop, slice_get};
 ghost use Rattle.mn_lists.specs.Standing.{pushed};
 

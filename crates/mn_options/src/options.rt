@@ -1,3 +1,4 @@
+//! What the words ask for together, or the rule that they break first.
 ghost use Rattle.std.specs.Prelude.{◌≡◌, ◌⊎◌, map, option_map, chars, encode_utf8_all, string_bytes, None, Some, IsOk, IsErrOf, IsSome, IfOk, IfErr, IfSome, IsNone};
 ghost use Rattle.mn_options.specs.Meant.{AreOptions, model_name};
 ghost use Rattle.mn_options.specs.Rules.{first_broken};

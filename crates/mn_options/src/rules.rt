@@ -1,3 +1,4 @@
+//! Which rule the words of the command line break first.
 ghost use Rattle.std.specs.Prelude.{◌≡◌, []};
 ghost use Rattle.mn_options.specs.Rules.{asks_for, broken_by, first_broken_behind, names_model};
 

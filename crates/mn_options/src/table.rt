@@ -1,3 +1,5 @@
+//! The options and their words.
+
 /// An option that stands in the table.
 #[derive(Clone, Copy, Debug, PartialEq, Eq)]
 pub enum CommandOption {

@@ -1,3 +1,4 @@
+//! Lawful words with what they ask for, and words that break a rule.
 use crate::{Options, Usage, lawful_words_break_no_rule, parse, table_is_unambiguous};
 use std::alloc::{AllocError, Global};
 use std::test::Fail;

@@ -1,3 +1,4 @@
+//! The rules that words can break.
 ghost use Rattle.std.specs.Prelude.{◌≡◌};
 ghost use Rattle.mn_options.specs.declared.usage.Usage.TheVariants.{NoMemory};
 

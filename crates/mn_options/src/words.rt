@@ -1,3 +1,4 @@
+//! What a word is by itself.
 ghost use Rattle.std.specs.Prelude.{◌≡◌, map, IfOk, string_bytes};
 ghost use Rattle.mn_options.specs.Words.{begins_option, option_in, option_table, word_of};
 

@@ -1,3 +1,5 @@
+//! The ways to choose a variable.
+
 /// How a search chooses the variable to branch on, among those that have more than one value left.
 #[derive(Clone, Copy, Debug, PartialEq, Eq)]
 pub enum Choice {

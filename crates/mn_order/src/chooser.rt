@@ -1,3 +1,4 @@
+//! A choice with a rule that answers it.
 ghost use Rattle.std.specs.Prelude.{◌≡◌, ◌↔◌, IsNone};
 ghost use Rattle.std.specs.List.{AllByRecursion};
 ghost use Rattle.mn_order.specs.Choose.{AreSizes, choose};

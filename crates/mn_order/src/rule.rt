@@ -1,3 +1,4 @@
+//! What answers a choice, as a trait, and the four that do.
 ghost use Rattle.std.specs.Prelude.{◌≡◌, ℕ, List, Option};
 ghost use Rattle.mn_order.specs.Choose.{AreSizes, choose};
 ghost use Rattle.mn_order.specs.declared.choice.Choice.TheVariants.{Fixed, Smallest, Largest, Ratio};

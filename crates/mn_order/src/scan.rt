@@ -1,3 +1,4 @@
+//! One pass over the sizes, for each of the four choices.
 ghost use Rattle.std.specs.Prelude.{◌≡◌};
 ghost use Rattle.mn_order.specs.Choose.{AreSizes, beats, choose};
 ghost use Rattle.mn_order.specs.Better.{better_of};

@@ -1,4 +1,4 @@
-// The sizes now, then those declared, and the places that the four choices name.
+//! The sizes now, then those declared, and the places that the four choices name.
 ghost use Rattle.mn_order.specs.Choose.{AreSizes};
 
 use crate::{

@@ -1,4 +1,4 @@
-// The calls that a form in memory was asked for, and which of them are to fail.
+//! The calls that a form in memory was asked for, and which of them are to fail.
 ghost use Rattle.std.specs.Prelude.{◌≡◌, Vec, ℕ};
 ghost use Rattle.mn_outside.specs.Memory.{is_next_failing, one_more};
 

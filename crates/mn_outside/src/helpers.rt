@@ -1,4 +1,4 @@
-// Calls that repeat one call of the outside until the whole is done.
+//! Calls that repeat one call of the outside until the whole is done.
 ghost use Rattle.std.specs.Prelude.{◌≡◌, ℕ, ◌+◌, ◌^◌, ◌<◌, ◌≤◌, length, vec_len, IfOk, IfErr, OnOk, OnErr, IsErrOf};
 ghost use Rattle.mn_outside.specs.declared.helpers.FetchFault.TheVariants.{Failed, NoMemory};
 ghost use Rattle.mn_outside.specs.Faults.{HasRisen, NoneFell};

@@ -1,4 +1,4 @@
-// Files in memory.
+//! Files in memory, which fail at the calls that they were told.
 ghost use Rattle.std.proofs.Common.{rules};
 ghost use Rattle.std.specs.Prelude.{◌≡◌, ◌⊎◌, ◌↔◌, ◌-◌, ◌^◌, ◌<◌, ◌++◌, [], length, take, drop, Some, min, IsTrue, IsFalse, IsNone, IsErr, IfOk, OnOk, OnErr, IsSomeAnd, option_copied};
 ghost use Rattle.std.specs.FinMap.{insert};

@@ -1,4 +1,4 @@
-// A sink in memory.
+//! A sink in memory, which fails at the calls that it was told.
 ghost use Rattle.std.specs.Prelude.{◌≡◌, ◌↔◌, length, Some, min, IsTrue, IsFalse, IsOk, IfOk, OnOk, OnErr};
 ghost use Rattle.std.proofs.Common.{rules};
 ghost use Rattle.mn_outside.specs.Faults.{greatest_count};

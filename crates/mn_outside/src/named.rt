@@ -1,4 +1,4 @@
-// A tree of names and bytes, which contracts see as a finite map.
+//! A tree of names and bytes, which contracts see as a finite map.
 ghost use Rattle.std.specs.Prelude.{◌≡◌, ◌++◌, OnOk, OnErr, option_copied};
 ghost use Rattle.std.specs.FinMap.{insert};
 ghost use Rattle.mn_outside.specs.Content.{bytes_at, file_at};

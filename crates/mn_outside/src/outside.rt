@@ -1,4 +1,4 @@
-// What the program can ask of the outside.
+//! What the program can ask of the outside.
 ghost use Rattle.std.specs.Prelude.{◌≡◌, ℕ, ◌+◌, ◌^◌, ◌<◌, ◌≤◌, List, length, take, Option, IfSome, IfOk, OnOk, OnErr};
 ghost use Rattle.mn_outside.specs.Faults.{HasRisen, NoneFell, greatest_count};
 ghost use Rattle.mn_outside.specs.Content.{FileMap, with_empty_file, with_file_bytes, with_bytes};

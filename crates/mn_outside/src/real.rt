@@ -1,4 +1,4 @@
-// The file system and standard output. What they hold isn't told: they are trusted to do what they are asked.
+//! The file system and standard output. What they hold isn't told: they are trusted to do what they are asked.
 ghost use Rattle.std.proofs.Common.{rules};
 ghost use Rattle.std.specs.Prelude.{◌≡◌, ◌≤◌, List, ℕ, None, length, min, IfOk};
 ghost use Rattle.mn_outside.specs.Faults.{greatest_count};

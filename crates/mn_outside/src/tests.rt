@@ -1,4 +1,4 @@
-// Worked examples, and that each call can succeed.
+//! Worked examples, and that each call can succeed.
 use crate::{
     DiskFiles, Failed, FetchFault, Files, MemFiles, MemSink, Sink, StdSink, append_all, fetch_all,
     put_all,

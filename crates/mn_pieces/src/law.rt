@@ -1,3 +1,4 @@
+//! Laws of texts that are written piece by piece. The functions do nothing.
 ghost use Rattle.mn_pieces.specs.Pieces.{PiecesAreTokens, SpacedPiecesAreTokens};
 ghost use Rattle.mn_pieces.specs.Printed.{NumbersAreRead};
 

@@ -1,3 +1,4 @@
+//! The arguments of a form, and the form with its word before them.
 ghost use Rattle.std.specs.Prelude.{◌≡◌, map, OnOk};
 ghost use Rattle.mn_printer.specs.Arguments.{argument_text};
 ghost use Rattle.mn_canonical.specs.Constraints.{form_text};

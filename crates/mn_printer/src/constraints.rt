@@ -1,3 +1,4 @@
+//! A constraint of any form, with those inside it.
 ghost use Rattle.std.specs.Prelude.{◌≡◌, ◌++◌, ◌∷◌, [], codes, OnOk};
 ghost use Rattle.std.specs.List.{flat_map};
 ghost use Rattle.mn_canonical.specs.Constraints.{children_texts, constraint_text, form_text, gathered_text};

@@ -1,3 +1,4 @@
+//! The lines that declare variables and aliases.
 ghost use Rattle.std.specs.Prelude.{◌≡◌, ◌≤◌, ◌++◌, codes, drop, length, map, replicate, OnOk};
 ghost use Rattle.mn_canonical.specs.Lists.{repeated};
 ghost use Rattle.std.specs.Fmt.{signed_decimal};

@@ -1,3 +1,4 @@
+//! Names, variables by their declaration and their indices, and terms.
 ghost use Rattle.std.specs.Prelude.{◌≡◌, ℕ, suc, ◌+◌, ◌-◌, ◌<◌, ◌≤◌, ◌++◌, [], codes, decimal, length, map, slice_get, Some, None, OnOk, IfSome};
 ghost use Rattle.std.specs.List.{AllByRecursion, flat_map};
 ghost use Rattle.mn_model.specs.Lawful.{AreNumberedFrom, IsLawfulDecl};

@@ -1,3 +1,4 @@
+//! A text as it grows, of which no more is kept than a text may have.
 ghost use Rattle.std.specs.Prelude.{◌≡◌, ◌<◌, ◌≤◌, decimal, IfErr, IfOk, OnOk};
 ghost use Rattle.std.specs.Fmt.{signed_decimal};
 ghost use Rattle.mn_model.specs.declared.limits.TheConstants.{TEXT_BYTES};

@@ -1,3 +1,4 @@
+//! The lines of the search section.
 ghost use Rattle.std.specs.Prelude.{◌≡◌, OnOk};
 ghost use Rattle.std.specs.List.{list_any};
 ghost use Rattle.mn_printer.specs.Pages.{onto};

@@ -1,3 +1,4 @@
+//! The whole text, section after section.
 ghost use Rattle.std.specs.Prelude.{◌≡◌, ◌<◌, ◌≤◌, ◌++◌, codes, length, IfErr, IfOk, IsErr, OnOk};
 ghost use Rattle.std.specs.List.{flat_map};
 ghost use Rattle.mn_model.specs.declared.limits.TheConstants.{TEXT_BYTES};

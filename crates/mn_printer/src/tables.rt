@@ -1,3 +1,4 @@
+//! Tuple lists, and the tables of constraints.
 ghost use Rattle.std.specs.Prelude.{◌≡◌, ◌<◌, ◌++◌, codes, length, map, slice_get, OnOk};
 ghost use Rattle.std.specs.List.{flat_map};
 ghost use Rattle.mn_model.specs.Lawful.{IsLawfulTuples};

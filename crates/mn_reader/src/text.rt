@@ -1,3 +1,4 @@
+//! Whole texts: the first two tokens, then section after section up to the head that ends the text.
 ghost use Rattle.std.specs.Prelude.{◌≡◌, ◌⊎◌, ◌<◌, ◌≤◌, codes, length, Some, None, IfErr, IfOk, IsOkAnd, Ok, Err};
 ghost use Rattle.mn_grammar.specs.Gives.{Gives, Stops};
 ghost use Rattle.mn_grammar.specs.Reading.{word_at};

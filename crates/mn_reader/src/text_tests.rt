@@ -1,4 +1,4 @@
-// Whole texts with their refusals.
+//! Whole texts with their refusals.
 use crate::read;
 use mn_language::{one_instance, one_verdict};
 use mn_model::{Refusal, Which};

@@ -1,3 +1,4 @@
+//! What is wanted of a reference where it stands, and what its end can break.
 ghost use Rattle.std.specs.Prelude.{◌≡◌, ◌<◌, slice_get};
 ghost use Rattle.mn_model.specs.Problem.{domains_of, variable_count};
 ghost use Rattle.mn_model.specs.Variable.{number_of};

@@ -1,3 +1,4 @@
+//! An entry of a list: a reference, one less a variable, or a number.
 ghost use Rattle.std.specs.Prelude.{◌≡◌, ◌<◌, drop, Some, None};
 ghost use Rattle.mn_grammar.specs.Gives.{Gives};
 ghost use Rattle.mn_grammar.specs.Kinds.{rank};

@@ -1,3 +1,4 @@
+//! The indices of a reference, and the variables that they lead to.
 ghost use Rattle.std.specs.Prelude.{◌≡◌, [], ◌∷◌, ◌+◌, ◌*◌, ◌^◌, ◌<◌, ◌≤◌, ◌++◌, map, true, false, length, IfOk, OnOk};
 ghost use Rattle.std.specs.List.{AllByRecursion, range_with_len};
 ghost use Rattle.mn_references.specs.References.{as_index, at_start, entered, is_only, is_outside, index_kind, places_from, places_below};

@@ -1,3 +1,4 @@
+//! Terms, bracketed lists of entries, and vectors.
 ghost use Rattle.std.specs.Prelude.{◌≡◌, ◌++◌, [], length, map, None, IfOk, OnOk};
 ghost use Rattle.mn_grammar.specs.Gives.{Gives};
 ghost use Rattle.mn_grammar.specs.Lists.{items_at, turn_at};

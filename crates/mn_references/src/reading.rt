@@ -1,3 +1,4 @@
+//! A reference by itself, with the mark that follows it.
 ghost use Rattle.std.specs.Prelude.{◌≡◌, true, IfErr, IfOk};
 ghost use Rattle.mn_grammar.specs.Gives.{Stops};
 ghost use Rattle.mn_grammar.specs.Lawful.{Lawful};

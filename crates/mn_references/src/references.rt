@@ -1,3 +1,4 @@
+//! References: a name with its indices, or without.
 ghost use Rattle.std.specs.Prelude.{◌≡◌, ◌<◌, ◌≤◌, Some, true, drop, length, map, IfOk, IsTrue};
 ghost use Rattle.std.specs.List.{AllByRecursion, range_with_len};
 ghost use Rattle.mn_grammar.specs.Gives.{Gives};

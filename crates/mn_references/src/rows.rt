@@ -1,3 +1,4 @@
+//! The rows that are printed.
 ghost use Rattle.std.specs.Prelude.{◌≡◌, [], ◌∷◌, ◌++◌, length, map, IfOk, OnOk};
 ghost use Rattle.mn_grammar.specs.Gives.{Gives};
 ghost use Rattle.mn_model.specs.declared.constraint.Term.TheVariants.{Var};

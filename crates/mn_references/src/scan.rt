@@ -1,3 +1,4 @@
+//! A place in the text of a cursor, at which reading may borrow from the instance.
 ghost use Rattle.std.specs.Prelude.{◌≡◌, true, ◌<◌, ◌≤◌, ◌-◌, [], length, drop, slice_get, Some, None, IfNone, IfOk, IfSome, is_some};
 ghost use Rattle.std.specs.Option.{option_map};
 ghost use Rattle.mn_lexer.specs.Reading.{IsTokenOf};

@@ -1,3 +1,5 @@
+//! What is wanted of a reference and of a vector.
+
 /// What is wanted of a reference.
 #[derive(Clone, Copy, Debug, PartialEq, Eq)]
 pub struct Want {

@@ -1,3 +1,4 @@
+//! The block of a solution.
 ghost use Rattle.std.specs.Prelude.{◌≡◌, ◌++◌, IfOk, OnOk, codes, decimal, map};
 ghost use Rattle.std.specs.List.{AllByRecursion, flat_map};
 ghost use Rattle.mn_model.specs.Domain.{IsValue};

@@ -1,3 +1,4 @@
+//! The summary, and the lines that tell of a fault.
 ghost use Rattle.std.specs.Prelude.{◌≡◌, ◌≢◌, IfOk};
 ghost use Rattle.mn_model.specs.declared.refusal.Refusal.{Refusal};
 ghost use Rattle.mn_report.specs.Lines.{kind_text, limit_text, number_text, outcome_text, place_of, refused_text, summary_text, usage_text};

@@ -1,4 +1,4 @@
-// The texts as the specification of the outputs shows them.
+//! The texts as the outputs' description shows them.
 ghost use Rattle.std.specs.Prelude.{IfOk};
 
 use super::*;
