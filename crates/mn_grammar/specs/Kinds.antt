@@ -6,7 +6,8 @@ use Rattle.mn_grammar.specs.declared.Kind.{Kind}
 use Rattle.mn_grammar.specs.declared.Kind.TheVariants.{Lex, NumberRange, Unsupported, Syntax, Again, Name, EmptyDomain, Limit, Shape}
 use Rattle.mn_grammar.specs.declared.Limit.TheVariants.{Variables, Constraints, Cells, Nesting, Span, Vector}
 
--- where two conditions are broken at one token, the kind of the lesser rank counts
+-- where two conditions are broken at one token, the kind of the lesser rank counts. Two limits never are: their ranks among one
+-- another are for the order to be one
 abbrev pub rank : Kind → ℕ
 rank Lex = 0
 rank NumberRange = 1
