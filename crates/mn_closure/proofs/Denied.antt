@@ -1,5 +1,5 @@
 -- A box is closed under a negation, and can meet it, exactly where the sign says so.
-use Rattle.std.proofs.Common.{◌≡◌, ℤ, pos, ◌-ℤ◌, ◌↔◌, Bool, true, false, List, [], ◌∷◌, refl, sym, subst, arith}
+use Rattle.std.proofs.Common.{◌≡◌, ℤ, pos, ◌-ℤ◌, ◌⊎◌, inl, inr, ◌↔◌, Bool, true, false, List, [], ◌∷◌, refl, sym, subst, arith}
 use Rattle.std.proofs.lemmas.Int.{ints}
 use Rattle.mn_model.specs.Negation.{negation, negations, other}
 use Rattle.mn_model.specs.declared.constraint.Con.{Con}
@@ -11,8 +11,8 @@ use Rattle.mn_model.specs.declared.declaration.Tuples.{Tuples}
 use Rattle.mn_boxes.specs.Places.{PlaceHas}
 use Rattle.mn_boxes.specs.Sets.{Variable}
 use Rattle.mn_meaning.specs.Meaning.{at}
-use Rattle.mn_closure.specs.Closed.{LeafClosed, IfApart, IsAlone, PartsPossible, OnePossible, EachPossible, TwoPossible, Possible, PartsClosed, OneClosed, EachClosed, Closed, is_taken_apart}
-use Rattle.mn_closure.specs.Forms.{IsLeaf, DeniesLeaves, DenyLeaves}
+use Rattle.mn_closure.specs.Closed.{LeafClosed, signed, IfApart, IsAlone, PartsPossible, OnePossible, EachPossible, TwoPossible, Possible, PartsClosed, OneClosed, EachClosed, Closed, is_taken_apart}
+use Rattle.mn_closure.specs.Forms.{HasParts, IsLeaf, DeniesLeaves, DenyLeaves}
 use Rattle.mn_closure.specs.Supports.{Choice, LeafPossible}
 use Rattle.mn_closure.proofs.Solved.{through, either_iff, both_iff}
 use Rattle.mn_closure.proofs.Turned.{other_has}
@@ -45,21 +45,29 @@ literal_possible lists box r = (λ some. there some.values some.chosen some.meet
     there (a ∷ values) chosen is = subst (PlaceHas box r) is chosen.0
 
 -- a leaf isn't taken apart
-leaf_parts : (lists : List Tuples) (c : Con) (box : List (List ℤ)) → IsLeaf c → PartsPossible lists c true box ↔ LeafPossible lists c box
-leaf_parts lists (con.WatchedOr cs) box leaf = absurd leaf
-leaf_parts lists (con.WatchedAnd cs) box leaf = absurd leaf
-leaf_parts lists (con.Reify' p (more_of-Con c none) r) box leaf = absurd leaf
-leaf_parts lists (con.Reifyimply' p (more_of-Con c none) r) box leaf = absurd leaf
-leaf_parts lists (con.Negated' p (more_of-Con c none)) box leaf = same
-leaf_parts lists c box leaf = same
+pub leaf_parts : (lists : List Tuples) (c : Con) (says : Bool) (box : List (List ℤ)) → IsLeaf c → PartsPossible lists c says box ↔ LeafPossible lists (signed says c) box
+leaf_parts lists (con.WatchedOr cs) says box leaf = absurd leaf
+leaf_parts lists (con.WatchedAnd cs) says box leaf = absurd leaf
+leaf_parts lists (con.Reify' p (more_of-Con c none) r) says box leaf = absurd leaf
+leaf_parts lists (con.Reifyimply' p (more_of-Con c none) r) says box leaf = absurd leaf
+leaf_parts lists (con.Negated' p (more_of-Con c none)) says box leaf = same
+leaf_parts lists c says box leaf = same
 
-leaf_closed : (vars : List Variable) (lists : List Tuples) (c : Con) (box : List (List ℤ)) → IsLeaf c → PartsClosed vars lists c true box ↔ LeafClosed vars lists c box
-leaf_closed vars lists (con.WatchedOr cs) box leaf = absurd leaf
-leaf_closed vars lists (con.WatchedAnd cs) box leaf = absurd leaf
-leaf_closed vars lists (con.Reify' p (more_of-Con c none) r) box leaf = absurd leaf
-leaf_closed vars lists (con.Reifyimply' p (more_of-Con c none) r) box leaf = absurd leaf
-leaf_closed vars lists (con.Negated' p (more_of-Con c none)) box leaf = same
-leaf_closed vars lists c box leaf = same
+pub leaf_closed : (vars : List Variable) (lists : List Tuples) (c : Con) (says : Bool) (box : List (List ℤ)) → IsLeaf c → PartsClosed vars lists c says box ↔ LeafClosed vars lists (signed says c) box
+leaf_closed vars lists (con.WatchedOr cs) says box leaf = absurd leaf
+leaf_closed vars lists (con.WatchedAnd cs) says box leaf = absurd leaf
+leaf_closed vars lists (con.Reify' p (more_of-Con c none) r) says box leaf = absurd leaf
+leaf_closed vars lists (con.Reifyimply' p (more_of-Con c none) r) says box leaf = absurd leaf
+leaf_closed vars lists (con.Negated' p (more_of-Con c none)) says box leaf = same
+leaf_closed vars lists c says box leaf = same
+
+pub leaf_or_parts : (c : Con) → IsLeaf c ⊎ HasParts c
+leaf_or_parts (con.WatchedOr cs) = inr tt
+leaf_or_parts (con.WatchedAnd cs) = inr tt
+leaf_or_parts (con.Reify' p (more_of-Con c none) r) = inr tt
+leaf_or_parts (con.Reifyimply' p (more_of-Con c none) r) = inr tt
+leaf_or_parts (con.Negated' p (more_of-Con c none)) = inl tt
+leaf_or_parts c = inl tt
 
 mutual
   parts_possible : (lists : List Tuples) (c : Con) (box : List (List ℤ)) → DeniesLeaves c → PartsPossible lists (negation c) true box ↔ PartsPossible lists c false box
@@ -67,7 +75,7 @@ mutual
   parts_possible lists (con.WatchedAnd cs) box denies = one_possible lists cs box denies
   parts_possible lists (con.Reify' p (more_of-Con c none) r) box denies = either_iff (both_iff (other_has box r (pos 1)) same) (both_iff (other_has box r (pos 0)) same)
   parts_possible lists (con.Reifyimply' p (more_of-Con c none) r) box denies = both_iff (literal_possible lists box r) (through (λ h. h.0, λ h. (h, tt)) (parts_possible lists c box denies))
-  parts_possible lists (con.Negated' p (more_of-Con c none)) box denies = leaf_parts lists c box denies.0
+  parts_possible lists (con.Negated' p (more_of-Con c none)) box denies = leaf_parts lists c true box denies.0
   parts_possible lists c box denies = (λ h. h, λ h. h)
 
   one_possible : (lists : List Tuples) (cs : Cons) (box : List (List ℤ)) → DenyLeaves cs → OnePossible lists (negations cs) true box ↔ OnePossible lists cs false box
@@ -94,7 +102,7 @@ mutual
   parts_closed vars lists (con.Reify' p (more_of-Con c none) r) box denies =
       four_iff (follows_iff (other_has box r (pos 1)) same) (follows_iff (other_has box r (pos 0)) same) (follows_iff (other_alone box r (pos 1)) same) (follows_iff (other_alone box r (pos 0)) same)
   parts_closed vars lists (con.Reifyimply' p (more_of-Con c none) r) box denies = both_iff same (through (λ h. h.0, λ h. (h, tt)) (parts_closed vars lists c box denies))
-  parts_closed vars lists (con.Negated' p (more_of-Con c none)) box denies = leaf_closed vars lists c box denies.0
+  parts_closed vars lists (con.Negated' p (more_of-Con c none)) box denies = leaf_closed vars lists c true box denies.0
   parts_closed vars lists c box denies = (λ h. h, λ h. h)
 
   one_closed : (vars : List Variable) (lists : List Tuples) (cs : Cons) (box : List (List ℤ)) → DenyLeaves cs → OneClosed vars lists (negations cs) true box ↔ OneClosed vars lists cs false box

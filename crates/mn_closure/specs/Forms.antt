@@ -65,6 +65,14 @@ IsLeaf (con.Reify' p (more_of-Con c none) r) = ⊥
 IsLeaf (con.Reifyimply' p (more_of-Con c none) r) = ⊥
 IsLeaf (con.Negated' p (more_of-Con c none)) = Unit {0}
 
+-- it is one of these four
+abbrev pub HasParts : Con → Type 0
+HasParts (con.WatchedOr cs) = Unit {0}
+HasParts (con.WatchedAnd cs) = Unit {0}
+HasParts (con.Reify' p (more_of-Con c none) r) = Unit {0}
+HasParts (con.Reifyimply' p (more_of-Con c none) r) = Unit {0}
+HasParts c = ⊥
+
 -- a leaf that can be written
 abbrev pub IsWrittenLeaf : Con → Type 0
 IsWrittenLeaf c = IsLeaf c × IsWritten c

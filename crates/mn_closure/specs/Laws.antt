@@ -18,15 +18,15 @@ use Rattle.mn_boxes.specs.Places.{PlaceHas}
 use Rattle.mn_boxes.specs.Sets.{Variable}
 use Rattle.mn_meaning.specs.Laws.{IsAssignment}
 use Rattle.mn_meaning.specs.Meaning.{Holds, HoldsAll, Meets}
-use Rattle.mn_closure.specs.Closed.{IfSays, PartsPossible, OnePossible, TwoPossible, PartsClosed, OneClosed, Possible, Closed}
+use Rattle.mn_closure.specs.Closed.{LeafClosed, signed, IfSays, PartsPossible, OnePossible, TwoPossible, PartsClosed, OneClosed, Possible, Closed}
 use Rattle.mn_closure.specs.Closures.{IsJoin, join, singles, IsClosure, NoClosure}
 use Rattle.mn_closure.specs.Computed.{closure_of}
-use Rattle.mn_closure.specs.Forms.{implied, DeniesLeaves}
+use Rattle.mn_closure.specs.Forms.{implied, DeniesLeaves, HasParts, IsLeaf}
 use Rattle.mn_closure.specs.Levels.{Level}
 use Rattle.mn_closure.specs.Ready.{AreReady, IsReady}
 pub use Rattle.mn_closure.specs.Ready.{Suits, DeclaredAscend, declared_sets}
 use Rattle.mn_closure.specs.Seen.{HasLiterals, IsShown, SamePlaces, SomeChanged, literal_of, literals_of}
-use Rattle.mn_closure.specs.Supports.{Choice, SomeChoice, SomeOpen, StandsAt, SupportedAt}
+use Rattle.mn_closure.specs.Supports.{Choice, SomeChoice, SomeOpen, LeafPossible, StandsAt, SupportedAt}
 
 -- a lawful constraint suits the declared variables
 abbrev pub LawfulConstraintsSuit : Type 0
@@ -65,6 +65,19 @@ WrittenDeniesLeaves = (c : Con) → IsWritten c → DeniesLeaves c
 
 abbrev pub ReadyDeniesLeaves : Type 0
 ReadyDeniesLeaves = (vars : List Variable) (lists : List Tuples) (c : Con) → IsReady vars lists c → DeniesLeaves c
+
+-- each form is a leaf, or is one of the four that have parts
+abbrev pub LeafOrParts : Type 0
+LeafOrParts = (c : Con) → IsLeaf c ⊎ HasParts c
+
+-- a leaf is possible as a whole
+abbrev pub LeavesArePossible : Type 0
+LeavesArePossible = (lists : List Tuples) (c : Con) (says : Bool) (box : List (List ℤ)) → IsLeaf c → PartsPossible lists c says box ↔ LeafPossible lists (signed says c) box
+
+-- and a box is closed under it as a whole
+abbrev pub LeavesAreClosed : Type 0
+LeavesAreClosed =
+    (vars : List Variable) (lists : List Tuples) (c : Con) (says : Bool) (box : List (List ℤ)) → IsLeaf c → PartsClosed vars lists c says box ↔ LeafClosed vars lists (signed says c) box
 
 -- what is supported in a box, at whatever level, is so in every box around it
 abbrev pub SupportStays : Type 0

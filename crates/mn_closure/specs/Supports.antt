@@ -97,9 +97,54 @@ HullSupported f x y z (suc (suc i)) a box = IsReached box x y f a
 
 -- no form but these two has the level Hull
 abbrev pub HullSupports : Con → ℕ → ℤ → List (List ℤ) → Type 0
-HullSupports (con.Product x y z) i a box = HullSupported product x y z i a box
+HullSupports (con.Eq x y) i a box = ⊥
+HullSupports (con.Diseq x y) i a box = ⊥
+HullSupports (con.Ineq x y k) i a box = ⊥
+HullSupports (con.Watchless x y) i a box = ⊥
+HullSupports (con.Minuseq x y) i a box = ⊥
+HullSupports (con.Abs x y) i a box = ⊥
 HullSupports (con.Difference x y z) i a box = HullSupported difference x y z i a box
-HullSupports c i a box = ⊥
+HullSupports (con.Product x y z) i a box = HullSupported product x y z i a box
+HullSupports (con.Div x y z) i a box = ⊥
+HullSupports (con.Modulo x y z) i a box = ⊥
+HullSupports (con.Max v x) i a box = ⊥
+HullSupports (con.Min v x) i a box = ⊥
+HullSupports (con.Sumleq v x) i a box = ⊥
+HullSupports (con.Sumgeq v x) i a box = ⊥
+HullSupports (con.Weightedsumleq ks v x) i a box = ⊥
+HullSupports (con.Weightedsumgeq ks v x) i a box = ⊥
+HullSupports (con.Watchsumleq v k) i a box = ⊥
+HullSupports (con.Watchsumgeq v k) i a box = ⊥
+HullSupports (con.Litsumgeq v ks k) i a box = ⊥
+HullSupports (con.Element v x y) i a box = ⊥
+HullSupports (con.Watchelement v x y) i a box = ⊥
+HullSupports (con.ElementOne v x y) i a box = ⊥
+HullSupports (con.WatchelementOne v x y) i a box = ⊥
+HullSupports (con.Table v tab) i a box = ⊥
+HullSupports (con.Negativetable v tab) i a box = ⊥
+HullSupports (con.Alldiff v) i a box = ⊥
+HullSupports (con.Lexleq v w) i a box = ⊥
+HullSupports (con.Lexless v w) i a box = ⊥
+HullSupports (con.Watchvecneq v w) i a box = ⊥
+HullSupports (con.Hamming v w k) i a box = ⊥
+HullSupports (con.Occurrence v k x) i a box = ⊥
+HullSupports (con.Occurrenceleq v k k2) i a box = ⊥
+HullSupports (con.Occurrencegeq v k k2) i a box = ⊥
+HullSupports (con.Nvalueleq v x) i a box = ⊥
+HullSupports (con.WLiteral x k) i a box = ⊥
+HullSupports (con.WNotliteral x k) i a box = ⊥
+HullSupports (con.WInset x ks) i a box = ⊥
+HullSupports (con.WNotinset x ks) i a box = ⊥
+HullSupports (con.WInrange x k k2) i a box = ⊥
+HullSupports (con.WNotinrange x k k2) i a box = ⊥
+HullSupports (con.WInintervalset x ks) i a box = ⊥
+HullSupports con.Always i a box = ⊥
+HullSupports con.Never i a box = ⊥
+HullSupports (con.WatchedOr cs) i a box = ⊥
+HullSupports (con.WatchedAnd cs) i a box = ⊥
+HullSupports (con.Reify' p c r) i a box = ⊥
+HullSupports (con.Reifyimply' p c r) i a box = ⊥
+HullSupports (con.Negated' p c) i a box = ⊥
 
 -- the value a at place i is supported in the box, at a level and at that of the constraint
 abbrev pub SupportedAt : Level → List Tuples → Con → ℕ → ℤ → List (List ℤ) → Type 0

@@ -1,5 +1,5 @@
 //! Laws of the definitions. The functions do nothing.
-ghost use Rattle.mn_closure.specs.Laws.{ChildrenAreReady, ChoiceHasItsLiterals, ChoiceIsShown, ClosedByPlaces, ClosedIsDecided, ClosedIsPossible, ClosureIsComputed, ClosureIsThere, ClosureIsUnique, ClosureOrNone, ImpliedIsReady, JoinIsClosed, JoinIsTheLeast, JoinIsUnique, LawfulConstraintsSuit, LawfulIsReady, LawfulNegationIsReady, LawfulValuesAscend, NegationIsDenied, NegationIsPossible, NegationIsReady, NoClosureIsComputed, NoClosureNoSolution, OneIsTheOnly, OpenIsShown, PlacesAreSameOrNot, PossibleByPlaces, PossibleIsDecided, PossibleIsShown, PossibleStays, ReadyDeniesLeaves, ReifiedIsReady, SinglesTellClosed, SinglesTellPossible, SolutionsAreInClosures, SupportStays, WrittenDeniesLeaves};
+ghost use Rattle.mn_closure.specs.Laws.{ChildrenAreReady, ChoiceHasItsLiterals, ChoiceIsShown, ClosedByPlaces, ClosedIsDecided, ClosedIsPossible, ClosureIsComputed, ClosureIsThere, ClosureIsUnique, ClosureOrNone, ImpliedIsReady, JoinIsClosed, JoinIsTheLeast, JoinIsUnique, LawfulConstraintsSuit, LawfulIsReady, LawfulNegationIsReady, LawfulValuesAscend, LeafOrParts, LeavesAreClosed, LeavesArePossible, NegationIsDenied, NegationIsPossible, NegationIsReady, NoClosureIsComputed, NoClosureNoSolution, OneIsTheOnly, OpenIsShown, PlacesAreSameOrNot, PossibleByPlaces, PossibleIsDecided, PossibleIsShown, PossibleStays, ReadyDeniesLeaves, ReifiedIsReady, SinglesTellClosed, SinglesTellPossible, SolutionsAreInClosures, SupportStays, WrittenDeniesLeaves};
 
 /// What a lawful instance keeps is what the laws below ask for.
 pub fn lawful_constraints_suit()
@@ -25,6 +25,13 @@ pub fn parts_are_ready()
 pub fn leaves_are_denied()
     ensures written { WrittenDeniesLeaves }
     ensures ready { ReadyDeniesLeaves }
+{}
+
+/// Each form of constraint is a leaf or has parts. A leaf is possible, and a box is closed under it, as a whole.
+pub fn leaves_are_whole()
+    ensures forms { LeafOrParts }
+    ensures possible { LeavesArePossible }
+    ensures closed { LeavesAreClosed }
 {}
 
 /// What is supported or possible in a box is so in every box around it.
