@@ -17,10 +17,10 @@ use Rattle.mn_model.proofs.Lists.{all_at, all_back, all_front, all_so}
 use Rattle.mn_boxes.specs.Boxes.{set_of}
 use Rattle.mn_boxes.specs.Places.{PlaceHas, IsPlaceEnd}
 use Rattle.mn_boxes.specs.Sets.{IsEnd, Variable}
-use Rattle.mn_boxes.proofs.Members.{decide_list}
+use Rattle.mn_boxes.proofs.Members.{decide_list, so}
 use Rattle.mn_closure.specs.Closed.{Asked, LeafClosed, signed, bit, IsAlone, OneClosed, EachClosed, PartsPossible, PartsClosed, Possible, Closed, is_taken_apart}
 use Rattle.mn_closure.specs.Levels.{Level, level}
-use Rattle.mn_closure.specs.Seen.{IsSameAt, SamePlaces, SomeChanged}
+use Rattle.mn_closure.specs.Seen.{IsQuietAt, IsSameAt, SamePlaces, SomeChanged}
 use Rattle.mn_closure.proofs.Turned.{Turns, all_signed}
 use Rattle.mn_closure.proofs.Wider.{GrowsAt, Grows, apart_either, grown_parts, grown_possible, grown_supported, grown_two, says_either}
 
@@ -143,6 +143,21 @@ decide_same : (one another : List (List ℤ)) (t : Term) → Decided (IsSameAt o
 decide_same one another (Var v) = decide_list (set_of one (number_of v)) (set_of another (number_of v))
 decide_same one another (Const k) = inl tt
 decide_same one another (Not v) = decide_list (set_of one (number_of v)) (set_of another (number_of v))
+
+-- a set that is the same fires no change, and one that fires none is the same
+quiet : {P : Type 0} → Decided P → P ↔ ((Unit {0} × (P → ⊥)) → ⊥)
+quiet decided = (λ p fires. fires.1 p, λ none. so decided (λ never. none (tt, never)))
+
+quiet_at : (vars : List Variable) (one another : List (List ℤ)) (t : Term) → IsSameAt one another t ↔ IsQuietAt vars one another t
+quiet_at vars one another (Var v) = quiet (decide_list (set_of one (number_of v)) (set_of another (number_of v)))
+quiet_at vars one another (Const k) = (λ same. same, λ still. still)
+quiet_at vars one another (Not v) = quiet (decide_list (set_of one (number_of v)) (set_of another (number_of v)))
+
+pub same_quiet : (vars : List Variable) (c : Con) (one another : List (List ℤ)) → SamePlaces one another c ↔ AllByRecursion (IsQuietAt vars one another) (places c)
+same_quiet vars c one another = (
+  all_so (IsSameAt one another) (IsQuietAt vars one another) (λ t. (quiet_at vars one another t).0) (places c),
+  all_so (IsQuietAt vars one another) (IsSameAt one another) (λ t. (quiet_at vars one another t).1) (places c),
+)
 
 -- the first place whose set isn't
 record Changes (one another : List (List ℤ)) (ts : List Term) : Type 0 where

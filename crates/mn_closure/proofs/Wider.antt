@@ -15,7 +15,7 @@ use Rattle.mn_boxes.specs.Boxes.{Inside}
 use Rattle.mn_boxes.specs.Places.{PlaceHas}
 use Rattle.mn_closure.specs.Closed.{signed, bit, IfSays, IfApart, PartsPossible, OnePossible, EachPossible, TwoPossible, Possible, is_taken_apart}
 use Rattle.mn_closure.specs.Levels.{Level, Arc, Fixed, Hull, Last, level}
-use Rattle.mn_closure.specs.Supports.{Choice, StandsAt, SomeChoice, ChoiceWith, IsOpen, SomeOpen, OtherOpen, IsWithin, SomeWithin, HullSupported, HullSupports, SupportedAt, LeafPossibleAt, product, difference}
+use Rattle.mn_closure.specs.Supports.{Choice, StandsAt, SomeChoice, ChoiceWith, IsOpen, SomeOpen, OtherOpen, IsBetweenEnds, SomeBetweenEnds, HullSupported, HullSupports, SupportedAt, LeafPossibleAt, product, difference}
 use Rattle.mn_closure.proofs.Turned.{Turns, all_signed, other_has}
 
 -- of two things the one that is asked for
@@ -76,10 +76,10 @@ wider_other c n inner outer g some = record {
   is_open = wider_open inner outer some.term (grows_at inner outer c some.place some.term g some.stands) some.is_open;
 }
 
-wider_within : (inner outer : List (List ℤ)) (t : Term) → GrowsAt inner outer t → (b : ℤ) → IsWithin inner t b → IsWithin outer t b
+wider_within : (inner outer : List (List ℤ)) (t : Term) → GrowsAt inner outer t → (b : ℤ) → IsBetweenEnds inner t b → IsBetweenEnds outer t b
 wider_within inner outer t g b w = record { low = w.low; high = w.high; has_low = g w.low w.has_low; has_high = g w.high w.has_high; from = w.from; to = w.to }
 
-wider_some_within : (inner outer : List (List ℤ)) (t u : Term) → GrowsAt inner outer t → GrowsAt inner outer u → (R : ℤ → ℤ → Type 0) → SomeWithin inner t u R → SomeWithin outer t u R
+wider_some_within : (inner outer : List (List ℤ)) (t u : Term) → GrowsAt inner outer t → GrowsAt inner outer u → (R : ℤ → ℤ → Type 0) → SomeBetweenEnds inner t u R → SomeBetweenEnds outer t u R
 wider_some_within inner outer t u g h R some = record {
   first = some.first;
   second = some.second;

@@ -21,7 +21,7 @@ use Rattle.mn_meaning.specs.Families.{decide_implies}
 use Rattle.mn_meaning.specs.Meaning.{at, Meets, decide_meets}
 use Rattle.mn_closure.specs.Closed.{Asked, LeafClosed, signed, bit, IfSays, IfApart, IsAlone, PartsPossible, OnePossible, EachPossible, TwoPossible, Possible, PartsClosed, OneClosed, EachClosed, Closed, ClosedAll, is_taken_apart}
 use Rattle.mn_closure.specs.Levels.{Level, Arc, Fixed, Hull, Last, level}
-use Rattle.mn_closure.specs.Supports.{Choice, SomeChoice, ChoiceWith, IsOpen, SomeOpen, OtherOpen, NoneElse, IsWithin, SomeWithin, HullSupported, HullSupports, SupportedAt, LeafPossibleAt, product, difference}
+use Rattle.mn_closure.specs.Supports.{Choice, SomeChoice, ChoiceWith, IsOpen, SomeOpen, OtherOpen, NoneElse, IsBetweenEnds, SomeBetweenEnds, HullSupported, HullSupports, SupportedAt, LeafPossibleAt, product, difference}
 
 -- ---- of all and of some
 
@@ -173,7 +173,7 @@ decide_between low high Q decide = by (decide_at_most low high)
     by (inl ordered) = decided_as (λ found. (found.0, (Has-stretch low high found.0 ordered).0 found.1, found.2), λ found. (found.0, (Has-stretch low high found.0 ordered).1 found.1, found.2)) (decide_among Q decide (stretch low high))
     by (inr none) = inr (λ found. none (let from = found.1.0 in let to = found.1.1 in omega (arith, ints, from, to)))
 
-decide_some_within : (box : List (List ℤ)) (t : Term) (Q : ℤ → Type 0) → ((b : ℤ) → Decided (Q b)) → Decided ((b : ℤ) × IsWithin box t b × Q b)
+decide_some_within : (box : List (List ℤ)) (t : Term) (Q : ℤ → Type 0) → ((b : ℤ) → Decided (Q b)) → Decided ((b : ℤ) × IsBetweenEnds box t b × Q b)
 decide_some_within box t Q decide = decided_as (to, from) (decide_some_there box t Low (λ low. decide_some_there box t (High low) (λ high. decide_between low high Q decide)))
   where
     High : ℤ → ℤ → Type 0
@@ -182,17 +182,17 @@ decide_some_within box t Q decide = decided_as (to, from) (decide_some_there box
     Low : ℤ → Type 0
     Low low = (high : ℤ) × PlaceHas box t high × High low high
 
-    to : (low : ℤ) × PlaceHas box t low × Low low → (b : ℤ) × IsWithin box t b × Q b
+    to : (low : ℤ) × PlaceHas box t low × Low low → (b : ℤ) × IsBetweenEnds box t b × Q b
     to found = let rest = found.2 in let inside = rest.2 in
         (inside.0, record { low = found.0; high = rest.0; has_low = found.1; has_high = rest.1; from = inside.1.0; to = inside.1.1 }, inside.2)
 
-    from : (b : ℤ) × IsWithin box t b × Q b → (low : ℤ) × PlaceHas box t low × Low low
+    from : (b : ℤ) × IsBetweenEnds box t b × Q b → (low : ℤ) × PlaceHas box t low × Low low
     from found = let w = found.1 in (w.low, w.has_low, (w.high, w.has_high, (found.0, (w.from, w.to), found.2)))
 
-decide_two_within : (box : List (List ℤ)) (t u : Term) (R : ℤ → ℤ → Type 0) → ((b c : ℤ) → Decided (R b c)) → Decided (SomeWithin box t u R)
+decide_two_within : (box : List (List ℤ)) (t u : Term) (R : ℤ → ℤ → Type 0) → ((b c : ℤ) → Decided (R b c)) → Decided (SomeBetweenEnds box t u R)
 decide_two_within box t u R decide = decided_as
     (λ found. record { first = found.0; second = found.2.0; within_first = found.1; within_second = found.2.1; related = found.2.2 }, λ some. (some.first, some.within_first, (some.second, some.within_second, some.related)))
-    (decide_some_within box t (λ b. (c : ℤ) × IsWithin box u c × R b c) (λ b. decide_some_within box u (R b) (decide b)))
+    (decide_some_within box t (λ b. (c : ℤ) × IsBetweenEnds box u c × R b c) (λ b. decide_some_within box u (R b) (decide b)))
 
 decide_hull : (f : ℤ → ℤ → ℤ) (x y z : Term) (i : ℕ) (a : ℤ) (box : List (List ℤ)) → Decided (HullSupported f x y z i a box)
 decide_hull f x y z zero a box = decide_two_within box y z (λ b c. f a b ≡ c) (λ b c. decide_int (f a b) c)

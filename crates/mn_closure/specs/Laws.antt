@@ -25,7 +25,7 @@ use Rattle.mn_closure.specs.Forms.{implied, DeniesLeaves, HasParts, IsLeaf}
 use Rattle.mn_closure.specs.Levels.{Level}
 use Rattle.mn_closure.specs.Ready.{AreReady, IsReady}
 pub use Rattle.mn_closure.specs.Ready.{Suits, DeclaredAscend, declared_sets}
-use Rattle.mn_closure.specs.Seen.{HasLiterals, IsShown, SamePlaces, SomeChanged, literal_of, literals_of}
+use Rattle.mn_closure.specs.Seen.{HasLiterals, IsQuietAt, IsShown, SamePlaces, SomeChanged, literal_of, literals_of}
 use Rattle.mn_closure.specs.Supports.{Choice, SomeChoice, SomeOpen, LeafPossible, StandsAt, SupportedAt}
 
 -- a lawful constraint suits the declared variables
@@ -108,7 +108,11 @@ ClosedByPlaces =
 abbrev pub PossibleByPlaces : Type 0
 PossibleByPlaces = (lists : List Tuples) (c : Con) (says : Bool) (one another : List (List ℤ)) → SamePlaces one another c → Possible lists c says one ↔ Possible lists c says another
 
--- these sets are all the same in two boxes, or one of them isn't
+-- these sets are the same exactly where no change of them is fired
+abbrev pub SamePlacesAreQuiet : Type 0
+SamePlacesAreQuiet = (vars : List Variable) (c : Con) (old new : List (List ℤ)) → SamePlaces old new c ↔ AllByRecursion (IsQuietAt vars old new) (places c)
+
+-- they are all the same in two boxes, or one of them isn't
 abbrev pub PlacesAreSameOrNot : Type 0
 PlacesAreSameOrNot = (c : Con) (one another : List (List ℤ)) → SamePlaces one another c ⊎ SomeChanged c one another
 

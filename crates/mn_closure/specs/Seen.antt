@@ -8,6 +8,8 @@ use Rattle.mn_model.specs.declared.constraint.Con.{Con}
 use Rattle.mn_model.specs.declared.constraint.Term.{Term}
 use Rattle.mn_model.specs.declared.constraint.Term.TheVariants.{Var, Const, Not}
 use Rattle.mn_boxes.specs.Boxes.{set_of}
+use Rattle.mn_boxes.specs.Events.{Any, Fires}
+use Rattle.mn_boxes.specs.Sets.{Variable}
 use Rattle.mn_closure.specs.Supports.{StandsAt}
 
 -- the set of the place's variable is the same in two boxes
@@ -20,7 +22,13 @@ IsSameAt one another (Not v) = set_of one (number_of v) ≡ set_of another (numb
 abbrev pub SamePlaces : List (List ℤ) → List (List ℤ) → Con → Type 0
 SamePlaces one another c = AllByRecursion (IsSameAt one another) (places c)
 
--- at some place it isn't
+-- no change of the set is fired, from the one box to the other
+abbrev pub IsQuietAt : List Variable → List (List ℤ) → List (List ℤ) → Term → Type 0
+IsQuietAt vars old new (Var v) = Fires vars (number_of v) Any old new → ⊥
+IsQuietAt vars old new (Const k) = Unit {0}
+IsQuietAt vars old new (Not v) = Fires vars (number_of v) Any old new → ⊥
+
+-- at some place the set isn't the same
 pub record SomeChanged (c : Con) (one another : List (List ℤ)) : Type 0 where
   pub place : ℕ
   pub term : Term

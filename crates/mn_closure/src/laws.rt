@@ -1,5 +1,47 @@
 //! Laws of the definitions. The functions do nothing.
-ghost use Rattle.mn_closure.specs.Laws.{ChildrenAreReady, ChoiceHasItsLiterals, ChoiceIsShown, ClosedByPlaces, ClosedIsDecided, ClosedIsPossible, ClosureIsComputed, ClosureIsThere, ClosureIsUnique, ClosureOrNone, ImpliedIsReady, JoinIsClosed, JoinIsTheLeast, JoinIsUnique, LawfulConstraintsSuit, LawfulIsReady, LawfulNegationIsReady, LawfulValuesAscend, LeafOrParts, LeavesAreClosed, LeavesArePossible, NegationIsDenied, NegationIsPossible, NegationIsReady, NoClosureIsComputed, NoClosureNoSolution, OneIsTheOnly, OpenIsShown, PlacesAreSameOrNot, PossibleByPlaces, PossibleIsDecided, PossibleIsShown, PossibleStays, ReadyDeniesLeaves, ReifiedIsReady, SinglesTellClosed, SinglesTellPossible, SolutionsAreInClosures, SupportStays, WrittenDeniesLeaves};
+ghost use Rattle.mn_closure.specs.Laws.{
+  ChildrenAreReady,
+  ChoiceHasItsLiterals,
+  ChoiceIsShown,
+  ClosedByPlaces,
+  ClosedIsDecided,
+  ClosedIsPossible,
+  ClosureIsComputed,
+  ClosureIsThere,
+  ClosureIsUnique,
+  ClosureOrNone,
+  ImpliedIsReady,
+  JoinIsClosed,
+  JoinIsTheLeast,
+  JoinIsUnique,
+  LawfulConstraintsSuit,
+  LawfulIsReady,
+  LawfulNegationIsReady,
+  LawfulValuesAscend,
+  LeafOrParts,
+  LeavesAreClosed,
+  LeavesArePossible,
+  NegationIsDenied,
+  NegationIsPossible,
+  NegationIsReady,
+  NoClosureIsComputed,
+  NoClosureNoSolution,
+  OneIsTheOnly,
+  OpenIsShown,
+  PlacesAreSameOrNot,
+  PossibleByPlaces,
+  PossibleIsDecided,
+  PossibleIsShown,
+  PossibleStays,
+  ReadyDeniesLeaves,
+  ReifiedIsReady,
+  SamePlacesAreQuiet,
+  SinglesTellClosed,
+  SinglesTellPossible,
+  SolutionsAreInClosures,
+  SupportStays,
+  WrittenDeniesLeaves,
+};
 
 /// What a lawful instance keeps is what the laws below ask for.
 pub fn lawful_constraints_suit()
@@ -47,11 +89,13 @@ pub fn propagation_is_decided()
     ensures met { ClosedIsPossible }
 {}
 
-/// Both speak of the sets at the constraint's places alone. In two boxes these are all the same, or one of them isn't.
+/// Both speak of the sets at the constraint's places alone. In two boxes these are all the same, or one of them isn't;
+/// they are the same where no change of them is fired.
 pub fn places_tell()
     ensures closed { ClosedByPlaces }
     ensures possible { PossibleByPlaces }
     ensures changed { PlacesAreSameOrNot }
+    ensures quiet { SamePlacesAreQuiet }
 {}
 
 /// What is possible in a box is shown by literals of the box: it is possible in every box that has these.

@@ -1,4 +1,4 @@
-use Rattle.mn_closure.proofs.Same.{closed_by_places, places_same_or_changed, possible_by_places}
+use Rattle.mn_closure.proofs.Same.{closed_by_places, places_same_or_changed, possible_by_places, same_quiet}
 use Rattle.mn_closure.proofs.laws.places_tell.Goals as goal
 
 pub returns-clause-closed : goal.returns-clause-closed
@@ -9,3 +9,6 @@ returns-clause-possible c = possible_by_places
 
 pub returns-clause-changed : goal.returns-clause-changed
 returns-clause-changed c = places_same_or_changed
+
+pub returns-clause-quiet : goal.returns-clause-quiet
+returns-clause-quiet c = same_quiet
