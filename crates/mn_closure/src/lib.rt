@@ -11,6 +11,8 @@
 mod laws;
 
 pub use laws::{
-    closure_is_unique, joins_are_closed, lawful_constraints_suit, negations_are_denied,
-    one_is_the_only, singles_tell, solutions_are_in_closures, wider_boxes_keep,
+    closure_is_unique, closures_are_computed, joins_are_closed, lawful_constraints_are_ready,
+    lawful_constraints_suit, leaves_are_denied, leaves_are_whole, literals_show,
+    negations_are_denied, one_is_the_only, parts_are_ready, places_tell, propagation_is_decided,
+    singles_tell, solutions_are_in_closures, wider_boxes_keep,
 };
