@@ -6,14 +6,17 @@ use Rattle.mn_model.specs.declared.constraint.Con.{Con}
 use Rattle.mn_model.specs.declared.declaration.Tuples.{Tuples}
 use Rattle.mn_boxes.specs.Boxes.{Inside, IsBox, set_of}
 use Rattle.mn_boxes.specs.Sets.{IsSetOf, IsUnbroken, Variable}
-use Rattle.mn_boxes.proofs.Members.{PartOf, decide_has, decide_list}
-use Rattle.mn_meaning.specs.Families.{decide_implies}
+use Rattle.mn_meaning.specs.Families.{decide_has, decide_implies, decide_same}
 use Rattle.mn_closure.specs.Closed.{ClosedAll}
 use Rattle.mn_closure.specs.Deciding.{decide_among, decide_closed_all, decide_each, decided_as}
 
 -- each member of a list is Q
 decide_members : (xs : List ℤ) (Q : ℤ → Type 0) → ((a : ℤ) → Decided (Q a)) → Decided ((a : ℤ) → Has xs a → Q a)
 decide_members xs Q decide = decide_each (Has xs) Q decide (decide_among (λ a. Q a → ⊥) (λ a. decide_not (decide a)) xs)
+
+-- each member of xs is one of ys
+abbrev PartOf : List ℤ → List ℤ → Type 0
+PartOf xs ys = (a : ℤ) → Has xs a → Has ys a
 
 decide_part : (xs ys : List ℤ) → Decided (PartOf xs ys)
 decide_part xs ys = decide_members xs (Has ys) (decide_has ys)
@@ -35,7 +38,7 @@ decide_true false = inr (λ e. cc)
 decide_set : (var : Variable) (xs : List ℤ) → Decided (IsSetOf var xs)
 decide_set var xs = decided_as
     (λ all. record { filled = all.0; ascends = all.1.0; declared = all.1.1.0; stretch = all.1.1.1 }, λ set. (set.filled, (set.ascends, (set.declared, set.stretch))))
-    (decide_both (decide_not (decide_list xs [])) (decide_both (decide_ascends xs) (decide_both (decide_part xs var.declared) (decide_implies (decide_true var.bounded) (decide_unbroken var.declared xs)))))
+    (decide_both (decide_not (decide_same xs [])) (decide_both (decide_ascends xs) (decide_both (decide_part xs var.declared) (decide_implies (decide_true var.bounded) (decide_unbroken var.declared xs)))))
 
 decide_box : (vars : List Variable) (box : List (List ℤ)) → Decided (IsBox vars box)
 decide_box [] [] = inl tt

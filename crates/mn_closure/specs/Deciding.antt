@@ -16,8 +16,7 @@ use Rattle.mn_model.proofs.Stretches.{Has-stretch}
 use Rattle.mn_boxes.specs.Boxes.{set_of}
 use Rattle.mn_boxes.specs.Places.{PlaceHas, IsPlaceEnd, is_place_bounded}
 use Rattle.mn_boxes.specs.Sets.{IsEnd, Variable}
-use Rattle.mn_boxes.proofs.Members.{decide_has, so}
-use Rattle.mn_meaning.specs.Families.{decide_implies}
+use Rattle.mn_meaning.specs.Families.{decide_has, decide_implies}
 use Rattle.mn_meaning.specs.Meaning.{at, Meets, decide_meets}
 use Rattle.mn_closure.specs.Closed.{Asked, LeafClosed, signed, bit, IfSays, IfApart, IsAlone, PartsPossible, OnePossible, EachPossible, TwoPossible, Possible, PartsClosed, OneClosed, EachClosed, Closed, ClosedAll, is_taken_apart}
 use Rattle.mn_closure.specs.Levels.{Level, Arc, Fixed, Hull, Last, level}
@@ -30,10 +29,15 @@ pub decided_as : {P Q : Type 0} → P ↔ Q → Decided P → Decided Q
 decided_as same (inl p) = inl (same.0 p)
 decided_as same (inr none) = inr (λ q. none (same.1 q))
 
+-- where it isn't so that something isn't, it is
+settled : {P : Type 0} → Decided P → ((P → ⊥) → ⊥) → P
+settled (inl p) never = p
+settled (inr none) never = absurd (never none)
+
 -- all that is P is Q, or something isn't
 pub decide_each : {X : Type 0} (P Q : X → Type 0) → ((x : X) → Decided (Q x)) → Decided ((x : X) × P x × (Q x → ⊥)) → Decided ((x : X) → P x → Q x)
 decide_each P Q decide (inl found) = inr (λ all. found.2 (all found.0 found.1))
-decide_each P Q decide (inr none) = inl (λ x p. so (decide x) (λ never. none (x, p, never)))
+decide_each P Q decide (inr none) = inl (λ x p. settled (decide x) (λ never. none (x, p, never)))
 
 -- some member of a list is Q
 pub decide_among : (Q : ℤ → Type 0) → ((a : ℤ) → Decided (Q a)) → (xs : List ℤ) → Decided ((a : ℤ) × Has xs a × Q a)
@@ -112,7 +116,7 @@ decide_places ts Q decide = by (decide_stands ts (λ i t. Q i t → ⊥) (λ i t
   where
     by : Decided ((i : ℕ) × (t : Term) × (slice_get ts i ≡ Some t) × (Q i t → ⊥)) → Decided ((i : ℕ) (t : Term) → slice_get ts i ≡ Some t → Q i t)
     by (inl found) = inr (λ all. found.3 (all found.0 found.1 found.2))
-    by (inr none) = inl (λ i t e. so (decide i t) (λ never. none (i, t, e, never)))
+    by (inr none) = inl (λ i t e. settled (decide i t) (λ never. none (i, t, e, never)))
 
 pub decide_some_open : (c : Con) (box : List (List ℤ)) → Decided (SomeOpen c box)
 decide_some_open c box = decided_as
