@@ -1,12 +1,12 @@
 -- A quotient is rounded down, and what it leaves lies between 0 and the divisor.
-use Rattle.std.proofs.Common.{◌≡◌, ◌≢◌, ◌⊎◌, inl, inr, ℕ, zero, suc, ◌/◌, ◌%◌, ◌*◌, ◌+◌, ◌<◌, ◌≤◌, ℤ, pos, negsuc, neg_ℤ, ◌+ℤ◌, ◌-ℤ◌, ◌*ℤ◌, ◌<ℤ◌, ◌≤ℤ◌, Bool, true, false, if◌then◌else◌, refl, ap, sym, subst, ◌∙◌, arith}
+use Rattle.std.proofs.Common.{◌≡◌, inl, inr, ℕ, zero, suc, ◌/◌, ◌%◌, ◌*◌, ◌+◌, ◌<◌, ◌≤◌, ℤ, pos, negsuc, neg_ℤ, ◌+ℤ◌, ◌*ℤ◌, ◌<ℤ◌, ◌≤ℤ◌, Bool, true, false, if◌then◌else◌, refl, ap, sym, subst, arith}
 use Rattle.std.proofs.Math.Nat.{div-add-mod, mod-lt}
 use Rattle.std.proofs.Math.IntN.{neg_ℤ-neg_ℤ}
 use Rattle.std.proofs.lemmas.Int.{ints}
 use Rattle.std.specs.Int.{int_div_euclid}
 use Rattle.std.specs.Prelude.{int_lt}
 use Rattle.mn_meaning.specs.Families.{quotient}
-use Rattle.mn_meaning.specs.Laws.{IsBetween, QuotientRoundsDown, QuotientRoundsDownBelow, RemainderIsSmall}
+use Rattle.mn_meaning.specs.Laws.{QuotientRoundsDown, QuotientRoundsDownBelow, RemainderIsSmall}
 
 -- of numbers that aren't negative
 nat_floor : (n m : ℕ) → ((suc m * (n / suc m)) ≤ n) × (n < (suc m * (n / suc m) + suc m))
