@@ -1,4 +1,5 @@
 pub mod Declared
 pub mod Members
+pub mod Parting
 pub mod Quiet
 pub mod Totals

@@ -16,5 +16,5 @@ pub use change::Moved;
 pub use kind::is_bounded;
 pub use laws::{
     as_many_are_the_same, declared_sets_are_a_box, events_are_changes, inside_passes_on,
-    quiet_events_tell,
+    quiet_events_tell, two_changes_fire_as_one,
 };
