@@ -11,4 +11,3 @@ pub mod Put
 pub mod ShapeLemmas
 pub mod Standing
 pub mod Unmarking
-pub mod Words

@@ -24,7 +24,7 @@ use Rattle.mn_domains.proofs.Marks.{Ascends-marked, high_mark, is_marked, low_ma
 use Rattle.mn_domains.proofs.Put.{PutAt, changed_put, count_of-set, kept_put, moved_sets}
 use Rattle.mn_domains.proofs.ShapeLemmas.{without_none}
 use Rattle.mn_domains.proofs.Standing.{known, seen, length-sets_held, stands_at}
-use Rattle.mn_domains.proofs.Words.{bit_of-cleared, bit_of-cleared_other}
+use Rattle.mn_boxes.proofs.Words.{bit_of-cleared, bit_of-cleared_other}
 
 -- bit i isn't one of the shape's
 abbrev pub Outside : ℕ → Shape → Type 0

@@ -8,7 +8,6 @@
 //! by a bit for each value. Only `build` and `save` take memory. The crate stands on `mn_boxes` and `mn_model`.
 #![tactic(auto)]
 
-mod bits;
 mod doms;
 mod layout;
 mod listed;

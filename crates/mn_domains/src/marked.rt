@@ -6,7 +6,7 @@ ghost use Rattle.mn_model.specs.Domain.{Has, IsValue};
 ghost use Rattle.mn_domains.specs.Changes.{is_not};
 ghost use Rattle.mn_domains.specs.Held.{AreEndsOf, IsRoom, IsRow, IsSpan, has_bit, marked};
 
-use super::bits::{is_set, next_set, previous_set};
+use mn_boxes::bits::{is_set, next_set, previous_set};
 use super::shape::Ends;
 
 /// The number of the bit of `a`.

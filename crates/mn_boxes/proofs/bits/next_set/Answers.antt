@@ -1,6 +1,6 @@
 use Rattle.std.proofs.Common.{◌/◌, ◌^◌, ◌<◌, slice_index_or, rules, arith}
-use Rattle.mn_domains.proofs.Words.{first_here, first_later, later_word, within_first}
-use Rattle.mn_domains.proofs.bits.next_set.Goals as goal
+use Rattle.mn_boxes.proofs.Words.{first_here, first_later, later_word, within_first}
+use Rattle.mn_boxes.proofs.bits.next_set.Goals as goal
 
 pub overflow_add-result : goal.overflow_add-result
 overflow_add-result c =

@@ -1,5 +1,5 @@
 use Rattle.std.proofs.Common.{◌≡◌, ℕ, ◌-◌, ◌<◌, ◌≤◌, slice_index}
-use Rattle.mn_domains.proofs.bits.next_word.Given as goal
+use Rattle.mn_boxes.proofs.bits.next_word.Given as goal
 
 abbrev pub invariant-loop-word : goal.invariant-loop-word
 invariant-loop-word l = record {

@@ -1,14 +1,14 @@
 -- One bit of a row of words.
-use Rattle.std.proofs.Common.{◌≡◌, ◌≢◌, ℕ, zero, suc, ◌+◌, ◌-◌, ◌*◌, ◌/◌, ◌%◌, ◌^◌, ◌<◌, ◌≤◌, ◌==◌, nat_eq, Bool, true, false, true≢false, List, length, slice_index_or, bit_and, refl, sym, ap, ◌∙◌, ◌⊎◌, inl, inr, arith}
+use Rattle.std.proofs.Common.{◌≡◌, ◌≢◌, ℕ, zero, suc, ◌+◌, ◌-◌, ◌*◌, ◌/◌, ◌%◌, ◌^◌, ◌<◌, ◌≤◌, ◌==◌, nat_eq, Bool, true, false, true≢false, List, length, slice_index_or, bit_and, bit_or, refl, sym, ap, ◌∙◌, ◌⊎◌, inl, inr, arith}
 use Rattle.std.specs.Int.{bit_at, bit_not, trailing_zeros}
 use Rattle.std.proofs.lemmas.Bool.Decides.{nat_tests}
 use Rattle.std.proofs.lemmas.List.{get_or-set_same, get_or-set_other}
 use Rattle.std.proofs.lemmas.Nat.{div-add-mod', pow-add, shr_le, trailing_le}
-use Rattle.std.proofs.lemmas.Nat.Bits.{bit_at-trailing_zeros, bit_at-zero, bit_at_above, bit_at_cat_low, bit_at_clear_same, bit_at_clear_other}
+use Rattle.std.proofs.lemmas.Nat.Bits.{bit_at-trailing_zeros, bit_at-zero, bit_at_above, bit_at_cat_low, bit_at_clear_same, bit_at_clear_other, bit_at_set_same, bit_at_set_other}
 use Rattle.std.proofs.Math.Nat.{div-div-eq-div-mul, div-eq_of_lt-le, mod-eq_of_lt, mod-lt, one-le-pow, pow-le-pow_right}
 use Rattle.std.proofs.Math.Pow.{pow-lt}
 use Rattle.std.proofs.lemmas.Bool.{cases_lt}
-use Rattle.mn_domains.specs.Held.{bit_of, cleared}
+use Rattle.mn_boxes.specs.Bits.{bit_of, cleared, marked_at}
 use mir.Syntax.{w64}
 use mir.Val.{bits}
 
@@ -46,6 +46,23 @@ bit_of-cleared_other words i k room differs = by (same_or_not (k / 64) (i / 64))
         let here : slice_index_or (cleared words i) (i / 64) 0 ≡ word = get_or-set_same words (i / 64) word 0 (within_words words i room) in
         let other : bit_at word (k % 64) ≡ bit_at (slice_index_or words (i / 64) 0) (k % 64) = rw (one_bit (i % 64) (omega arith)) at (bit_at_clear_other w64 (slice_index_or words (i / 64) 0) (i % 64) (omega arith) (k % 64) (omega arith) (λ e. differs (omega arith))) in
         ap (λ q. bit_at (slice_index_or (cleared words i) q 0) (k % 64) == 1) same ∙ (ap (λ n. bit_at n (k % 64) == 1) here ∙ (ap (λ b. b == 1) other ∙ ap (λ q. bit_at (slice_index_or words q 0) (k % 64) == 1) (sym same)))
+
+pub bit_of-marked : (words : List ℕ) (i : ℕ) → i < 64 * length words → bit_of (marked_at words i) i ≡ true
+bit_of-marked words i room =
+    let word = bit_or (slice_index_or words (i / 64) 0) (2 ^ (i % 64)) in
+    let here : slice_index_or (marked_at words i) (i / 64) 0 ≡ word = get_or-set_same words (i / 64) word 0 (within_words words i room) in
+    let one : bit_at word (i % 64) ≡ 1 = rw (one_bit (i % 64) (omega arith)) at (bit_at_set_same w64 (slice_index_or words (i / 64) 0) (i % 64) (omega arith)) in
+    ap (λ n. bit_at n (i % 64) == 1) here ∙ ap (λ b. b == 1) one
+
+pub bit_of-marked_other : (words : List ℕ) (i k : ℕ) → i < 64 * length words → (k ≡ i → ⊥) → bit_of (marked_at words i) k ≡ bit_of words k
+bit_of-marked_other words i k room differs = by (same_or_not (k / 64) (i / 64))
+  where
+    by : (k / 64 ≡ i / 64) ⊎ (k / 64 ≡ i / 64 → ⊥) → bit_of (marked_at words i) k ≡ bit_of words k
+    by (inr apart) = ap (λ n. bit_at n (k % 64) == 1) (get_or-set_other words (i / 64) (k / 64) (bit_or (slice_index_or words (i / 64) 0) (2 ^ (i % 64))) 0 apart)
+    by (inl same) =
+        let here : slice_index_or (marked_at words i) (i / 64) 0 ≡ bit_or (slice_index_or words (i / 64) 0) (2 ^ (i % 64)) = get_or-set_same words (i / 64) (bit_or (slice_index_or words (i / 64) 0) (2 ^ (i % 64))) 0 (within_words words i room) in
+        let other : bit_at (bit_or (slice_index_or words (i / 64) 0) (2 ^ (i % 64))) (k % 64) ≡ bit_at (slice_index_or words (i / 64) 0) (k % 64) = rw (one_bit (i % 64) (omega arith)) at (bit_at_set_other w64 (slice_index_or words (i / 64) 0) (i % 64) (omega arith) (k % 64) (λ e. differs (omega arith))) in
+        ap (λ q. bit_at (slice_index_or (marked_at words i) q 0) (k % 64) == 1) same ∙ (ap (λ n. bit_at n (k % 64) == 1) here ∙ (ap (λ b. b == 1) other ∙ ap (λ q. bit_at (slice_index_or words q 0) (k % 64) == 1) (sym same)))
 
 -- ---- the first set bit
 
@@ -106,7 +123,7 @@ no_rest words i n none order same =
     let k = i % 64 in
     bit_by words n (i / 64) (k + (n - i)) (omega arith) (omega arith) ∙ ap (λ b. b == 1) (sym (bit_at-shifted w k (n - i)) ∙ (ap (λ m. bit_at m (n - i)) none ∙ bit_at-zero (n - i)))
 
-zero_word : (words : List ℕ) (n : ℕ) → slice_index_or words (n / 64) 0 ≡ 0 → bit_of words n ≡ false
+pub zero_word : (words : List ℕ) (n : ℕ) → slice_index_or words (n / 64) 0 ≡ 0 → bit_of words n ≡ false
 zero_word words n none = ap (λ w. bit_at w (n % 64) == 1) none ∙ ap (λ b. b == 1) (bit_at-zero (n % 64))
 
 -- the word of a set bit isn't 0, and a set bit behind an empty rest is in a later word

@@ -1,7 +1,7 @@
 use Rattle.std.proofs.Common.{◌≡◌, ◌%◌, false, sym, ◌∙◌, arith}
-use Rattle.mn_domains.specs.Held.{bit_of}
-use Rattle.mn_domains.proofs.Words.{earlier_word, last_earlier, last_here, one_bit, within_last}
-use Rattle.mn_domains.proofs.bits.previous_set.Goals as goal
+use Rattle.mn_boxes.specs.Bits.{bit_of}
+use Rattle.mn_boxes.proofs.Words.{earlier_word, last_earlier, last_here, one_bit, within_last}
+use Rattle.mn_boxes.proofs.bits.previous_set.Goals as goal
 
 pub returns-then-rest-ne0 : goal.returns-then-rest-ne0
 returns-then-rest-ne0 c =

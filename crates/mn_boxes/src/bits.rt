@@ -1,6 +1,6 @@
 //! Bits in a row of words: bit `i` is bit `i % 64` of word `i / 64`.
 ghost use Rattle.std.specs.Prelude.{◌≡◌, ◌≢◌, ℕ, ◌*◌, ◌<◌, ◌≤◌, ◌==◌, true, false, length, slice_index};
-ghost use Rattle.mn_domains.specs.Held.{bit_of};
+ghost use Rattle.mn_boxes.specs.Bits.{bit_of, cleared, marked_at};
 
 /// How many bits a word has.
 pub const WIDTH: usize = 64;
@@ -11,6 +11,32 @@ pub fn is_set(words: &[u64], i: usize) -> bool
     ensures { result ≡ bit_of words.now i }
 {
     (words[i / WIDTH] >> (i % WIDTH)) & 1 == 1
+}
+
+/// Sets bit `i`.
+pub fn mark(words: &mut Vec<u64>, i: usize)
+    requires { i < 64 * length words.old.items }
+    ensures { words.new.items ≡ marked_at words.old.items i }
+{
+    words[i / WIDTH] |= 1 << (i % WIDTH);
+}
+
+/// Clears bit `i`.
+pub fn unmark(words: &mut Vec<u64>, i: usize)
+    requires { i < 64 * length words.old.items }
+    ensures { words.new.items ≡ cleared words.old.items i }
+{
+    words[i / WIDTH] &= !(1 << (i % WIDTH));
+}
+
+/// Clears all bits.
+pub fn clear_all(words: &mut Vec<u64>)
+    ensures count { length words.new.items ≡ length words.old.items }
+    ensures zeros { (k : ℕ) → k < length words.new.items → slice_index words.new.items k ≡ 0 }
+{
+    for i in 0..words.len() {
+        words[i] = 0;
+    }
 }
 
 /// The first word from `at` on that isn't 0. Word `end` isn't.
