@@ -73,21 +73,21 @@ same_least : (old mid new : List ℤ) → Three old mid new → least old ≡ le
 same_least old mid new t same = empty_or old mid new t
     (λ a b c. record { first = ap least (a ∙ sym b); second = ap least (b ∙ sym c) })
     (λ filled. (let l = some_least new filled in let in_new = stands_first new l.0 t.up_new l.1 in let in_old = stands_first old l.0 t.up_old (same ∙ l.1) in
-        let m = some_least mid (λ none. filled (none_of mid new t.second none)) in let in_mid = stands_first mid m.0 t.up_mid m.1 in
-        let low = in_mid.others l.0 (t.second l.0 in_new.has) in let high = in_old.others m.0 (t.first m.0 in_mid.has) in
-        let is : m.0 ≡ l.0 = omega (arith, ints, low, high) in
-        let there : least mid ≡ least new = m.1 ∙ (ap Some is ∙ sym l.1) in
-        record { first = same ∙ sym there; second = there }))
+    let m = some_least mid (λ none. filled (none_of mid new t.second none)) in let in_mid = stands_first mid m.0 t.up_mid m.1 in
+    let low = in_mid.others l.0 (t.second l.0 in_new.has) in let high = in_old.others m.0 (t.first m.0 in_mid.has) in
+    let is : m.0 ≡ l.0 = omega (arith, ints, low, high) in
+    let there : least mid ≡ least new = m.1 ∙ (ap Some is ∙ sym l.1) in
+    record { first = same ∙ sym there; second = there }))
 
 same_greatest : (old mid new : List ℤ) → Three old mid new → greatest old ≡ greatest new → SameEnds greatest old mid new
 same_greatest old mid new t same = empty_or old mid new t
     (λ a b c. record { first = ap greatest (a ∙ sym b); second = ap greatest (b ∙ sym c) })
     (λ filled. (let l = some_greatest new filled in let in_new = stands_last new l.0 t.up_new l.1 in let in_old = stands_last old l.0 t.up_old (same ∙ l.1) in
-        let m = some_greatest mid (λ none. filled (none_of mid new t.second none)) in let in_mid = stands_last mid m.0 t.up_mid m.1 in
-        let low = in_mid.others l.0 (t.second l.0 in_new.has) in let high = in_old.others m.0 (t.first m.0 in_mid.has) in
-        let is : m.0 ≡ l.0 = omega (arith, ints, low, high) in
-        let there : greatest mid ≡ greatest new = m.1 ∙ (ap Some is ∙ sym l.1) in
-        record { first = same ∙ sym there; second = there }))
+    let m = some_greatest mid (λ none. filled (none_of mid new t.second none)) in let in_mid = stands_last mid m.0 t.up_mid m.1 in
+    let low = in_mid.others l.0 (t.second l.0 in_new.has) in let high = in_old.others m.0 (t.first m.0 in_mid.has) in
+    let is : m.0 ≡ l.0 = omega (arith, ints, low, high) in
+    let there : greatest mid ≡ greatest new = m.1 ∙ (ap Some is ∙ sym l.1) in
+    record { first = same ∙ sym there; second = there }))
 
 -- a part of a single set that has a value is single
 part_single : (xs ys : List ℤ) → Ascends xs → Ascends ys → PartOf ys xs → (ys ≡ [] → ⊥) → IsSingle xs → IsSingle ys
