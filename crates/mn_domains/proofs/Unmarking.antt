@@ -11,7 +11,7 @@ use Rattle.mn_boxes.specs.Boxes.{count_of, set_of}
 use Rattle.mn_boxes.specs.Events.{IsMoved}
 use Rattle.mn_boxes.specs.Sets.{IsEnd, MayGo, Variable}
 use Rattle.mn_boxes.specs.declared.change.Moved.{Moved}
-use Rattle.mn_domains.specs.Changes.{Changed, is_not}
+use Rattle.mn_domains.specs.Changes.{Changed, is_not, with_sets}
 use Rattle.mn_domains.specs.Held.{AreApartFrom, AreEndsOf, IsHeld, IsKept, IsShape, IsState, TellsBit, bit_of, cleared, has_bit, is_bounded_shape, marked, sets_held, sets_of_state, values_held, variable_held}
 use Rattle.mn_domains.specs.Sets.{Sets}
 use Rattle.mn_domains.specs.States.{Unmarks, UnmarksIf, one_less}
@@ -157,7 +157,7 @@ pub record Unmarked (listed : List ℤ) (shapes : List Shape) (new : State) (sav
   pub changed : Changed (is_not a) v s (seen listed shapes new saved) (Ok moved)
 
 -- where the bit wasn't set nothing changed
-unmarked_none : (listed : List ℤ) (shapes : List Shape) (old new : State) (saved : List State) (s : Sets) (v : ℕ) (lo hi : ℤ) (at : ℕ) (e : Ends) (a : ℤ) (moved : Moved) → seen listed shapes old saved ≡ s → IsKept listed shapes old saved → v < length s.sets
+unmarked_none : (listed : List ℤ) (shapes : List Shape) (old new : State) (saved : List State) (s : Sets) (v : ℕ) (lo hi : ℤ) (at : ℕ) (e : Ends) (a : ℤ) (moved : Moved) → seen listed shapes old saved ≡ s → IsKept listed shapes old saved → v < length s.vars
     → Bits lo hi at ≡ get_or shapes v (Bits lo hi at) → e ≡ get_or old.ends.items v e → has_bit old.bits.items lo at a ≡ false
     → UnmarksIf false old new v e (at + int_gap lo a) moved → Unmarked listed shapes new saved s v a moved
 unmarked_none listed shapes old new saved s v lo hi at e a moved view kept_old within at_shape at_ends clear u =
@@ -171,7 +171,7 @@ unmarked_none listed shapes old new saved s v lo hi at e a moved view kept_old w
     }
 
 -- where it was set the value is gone
-unmarked_one : (listed : List ℤ) (shapes : List Shape) (old new : State) (saved : List State) (s : Sets) (v : ℕ) (lo hi : ℤ) (at : ℕ) (e : Ends) (a : ℤ) (moved : Moved) → seen listed shapes old saved ≡ s → IsKept listed shapes old saved → v < length s.sets
+unmarked_one : (listed : List ℤ) (shapes : List Shape) (old new : State) (saved : List State) (s : Sets) (v : ℕ) (lo hi : ℤ) (at : ℕ) (e : Ends) (a : ℤ) (moved : Moved) → seen listed shapes old saved ≡ s → IsKept listed shapes old saved → v < length s.vars
     → Bits lo hi at ≡ get_or shapes v (Bits lo hi at) → e ≡ get_or old.ends.items v e → e.lo <ℤ a → a <ℤ e.hi → has_bit old.bits.items lo at a ≡ true
     → UnmarksIf true old new v e (at + int_gap lo a) moved → Unmarked listed shapes new saved s v a moved
 unmarked_one listed shapes old new saved s v lo hi at e a moved view kept_old within at_shape at_ends above below set u =
@@ -188,7 +188,7 @@ unmarked_one listed shapes old new saved s v lo hi at e a moved view kept_old wi
     let new_held : IsHeld listed (cleared bits i) (Bits lo hi at) (one_less e) = record { ends = out.ends; within = k.held.within } in
     let ch = changed_at listed bits (cleared bits i) i (64 * length bits) 0 shapes old.ends.items v lo hi at (one_less e) differ kept_old.apart kept_old.shaped kept_old.current.held st.in_shapes at_shape (omega arith) last new_held in
     let box = sets_held listed bits shapes old.ends.items in
-    let back : set_of box v ≡ marked bits lo at e = ap (λ (t : Sets). set_of t.sets v) view ∙ k.set in
+    let back : set_of box v ≡ marked bits lo at e = ap (λ (t : Sets). set_of t.now.sets v) view ∙ k.set in
     let sets : sets_held listed (cleared bits i) shapes (slice_set old.ends.items v (one_less e)) ≡ slice_set box v (filter (is_not a) (marked bits lo at e)) = ch.sets ∙ ap (slice_set box v) out.values in
     let long : length box ≡ length shapes = length-sets_held listed bits shapes old.ends.items kept_old.current.held in
     let in_shapes = st.in_shapes in
@@ -204,7 +204,7 @@ unmarked_one listed shapes old new saved s v lo hi at e a moved view kept_old wi
     ap (λ (es : List Ends). sets_held listed new.bits.items shapes es) u.1 ∙ (ap (λ bs. sets_held listed bs shapes (slice_set old.ends.items v (one_less e))) u.0 ∙ sets) in
     let change : Changed (is_not a) v (seen listed shapes old saved) (seen listed shapes new saved) (Ok moved) = (
       λ none. some (set_of box v) back after_ends none,
-      ap (λ b. record { vars = map (variable_held listed) shapes; sets = b; saved = map (sets_of_state listed shapes) saved }) (sets_new ∙ ap (λ ys. slice_set box v (filter (is_not a) ys)) (sym back)),
+      ap (λ b. with_sets (seen listed shapes old saved) b) (sets_new ∙ ap (λ ys. slice_set box v (filter (is_not a) ys)) (sym back)),
       subst (λ ys. IsMoved ys (filter (is_not a) ys) moved) (sym back) (moved_sets (marked bits lo at e) (is_not a) e (one_less e) moved (Ascends-marked bits lo at e) k.held.ends after_ends u.3),
     ) in
     record {
@@ -224,7 +224,7 @@ unmarked_one listed shapes old new saved s v lo hi at e a moved view kept_old wi
         let absent : slice_get [] 0 ≡ Some e.lo = ap (λ zs. slice_get zs 0) (sym empty) ∙ first in
         cc
 
-pub unmarked : (listed : List ℤ) (shapes : List Shape) (old new : State) (saved : List State) (s : Sets) (v : ℕ) (lo hi : ℤ) (at : ℕ) (e : Ends) (a : ℤ) (moved : Moved) → seen listed shapes old saved ≡ s → IsKept listed shapes old saved → v < length s.sets
+pub unmarked : (listed : List ℤ) (shapes : List Shape) (old new : State) (saved : List State) (s : Sets) (v : ℕ) (lo hi : ℤ) (at : ℕ) (e : Ends) (a : ℤ) (moved : Moved) → seen listed shapes old saved ≡ s → IsKept listed shapes old saved → v < length s.vars
     → Bits lo hi at ≡ get_or shapes v (Bits lo hi at) → e ≡ get_or old.ends.items v e → e.lo <ℤ a → a <ℤ e.hi → Unmarks old new v e (at + int_gap lo a) moved → Unmarked listed shapes new saved s v a moved
 unmarked listed shapes old new saved s v lo hi at e a moved view kept_old within at_shape at_ends above below u = by (has_bit old.bits.items lo at a) refl u
   where
@@ -233,7 +233,7 @@ unmarked listed shapes old new saved s v lo hi at e a moved view kept_old within
     by false is w = unmarked_none listed shapes old new saved s v lo hi at e a moved view kept_old within at_shape at_ends is w
 
 -- the same of any shape that tells a bit
-pub unmarked_shape : (listed : List ℤ) (shapes : List Shape) (old new : State) (saved : List State) (s : Sets) (v : ℕ) (shape : Shape) (e : Ends) (a : ℤ) (bit : ℕ) (moved : Moved) → seen listed shapes old saved ≡ s → IsKept listed shapes old saved → v < length s.sets
+pub unmarked_shape : (listed : List ℤ) (shapes : List Shape) (old new : State) (saved : List State) (s : Sets) (v : ℕ) (shape : Shape) (e : Ends) (a : ℤ) (bit : ℕ) (moved : Moved) → seen listed shapes old saved ≡ s → IsKept listed shapes old saved → v < length s.vars
     → shape ≡ get_or shapes v shape → e ≡ get_or old.ends.items v e → TellsBit shape e a (Some bit) → Unmarks old new v e bit moved → Unmarked listed shapes new saved s v a moved
 unmarked_shape listed shapes old new saved s v (Stretch lo hi) e a bit moved view kept_old within at_shape at_ends tells u = absurd tells.2
 unmarked_shape listed shapes old new saved s v (Listed from to) e a bit moved view kept_old within at_shape at_ends tells u = absurd tells.2

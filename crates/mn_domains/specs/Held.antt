@@ -8,6 +8,7 @@ pub use Rattle.mn_boxes.specs.Bits.{bit_of, cleared}
 use Rattle.mn_boxes.specs.Boxes.{count_of}
 use Rattle.mn_boxes.specs.Sets.{Variable}
 use Rattle.mn_boxes.specs.declared.change.Moved.{Moved}
+use Rattle.mn_domains.specs.Sets.{State as Seen}
 use Rattle.mn_domains.specs.declared.shape.Ends.{Ends}
 use Rattle.mn_domains.specs.declared.shape.Shape.{Shape}
 use Rattle.mn_domains.specs.declared.shape.Shape.TheVariants.{Stretch, Listed, Bits}
@@ -138,6 +139,10 @@ pub record IsKept (listed : List ℤ) (shapes : List Shape) (now : State) (saved
 -- the sets of a state
 abbrev pub sets_of_state : List ℤ → List Shape → State → List (List ℤ)
 sets_of_state listed shapes s = sets_held listed s.bits.items shapes s.ends.items
+
+-- what contracts see of a state: no flag is held yet
+abbrev pub state_held : List ℤ → List Shape → State → Seen
+state_held listed shapes s = record { sets = sets_of_state listed shapes s; flags = [] }
 
 -- these are the ends of all that is declared
 abbrev pub AreFullEnds : Shape → Ends → Type 0
