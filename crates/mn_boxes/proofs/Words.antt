@@ -67,7 +67,7 @@ bit_of-marked_other words i k room differs = by (same_or_not (k / 64) (i / 64))
 -- ---- the first set bit
 
 -- a bit of a word that was shifted
-bit_at-shifted : (n k t : ℕ) → bit_at (n / 2 ^ k) t ≡ bit_at n (k + t)
+pub bit_at-shifted : (n k t : ℕ) → bit_at (n / 2 ^ k) t ≡ bit_at n (k + t)
 bit_at-shifted n k t = ap (λ m. m % 2) (div-div-eq-div-mul n (2 ^ k) (2 ^ t) ∙ ap (λ m. n / m) (sym (pow-add 2 k t)))
 
 -- a bit by its word and its place there
@@ -77,7 +77,7 @@ bit_in words q t below =
     let place : (q * 64 + t) % 64 ≡ t = omega arith in
     ap (λ w. bit_at (slice_index_or words w 0) ((q * 64 + t) % 64) == 1) word ∙ ap (λ b. bit_at (slice_index_or words q 0) b == 1) place
 
-bit_by : (words : List ℕ) (n q t : ℕ) → n ≡ q * 64 + t → t < 64 → bit_of words n ≡ (bit_at (slice_index_or words q 0) t == 1)
+pub bit_by : (words : List ℕ) (n q t : ℕ) → n ≡ q * 64 + t → t < 64 → bit_of words n ≡ (bit_at (slice_index_or words q 0) t == 1)
 bit_by words n q t is below = ap (bit_of words) is ∙ bit_in words q t below
 
 -- no bit is set from i on before this one, and this one is
@@ -176,7 +176,7 @@ highest n t low high =
     record { set = ap (λ m. m % 2) one; above = λ j less. bit_at_above n (t + 1) j (omega (arith, high, next)) (omega arith) }
 
 -- the low bits of a word
-bit_at-low : (n k t : ℕ) → t < k → bit_at n t ≡ bit_at (n % 2 ^ k) t
+pub bit_at-low : (n k t : ℕ) → t < k → bit_at n t ≡ bit_at (n % 2 ^ k) t
 bit_at-low n k t below = ap (λ m. bit_at m t) (sym (div-add-mod' n (2 ^ k))) ∙ bit_at_cat_low (n / 2 ^ k) k (n % 2 ^ k) t below
 
 pub record LastSet (words : List ℕ) (i found : ℕ) : Type 0 where

@@ -14,7 +14,11 @@ cleared words i = slice_set words (i / 64) (bit_and (slice_index words (i / 64))
 abbrev pub marked_at : List ℕ → ℕ → List ℕ
 marked_at words i = slice_set words (i / 64) (bit_or (slice_index words (i / 64)) (2 ^ (i % 64)))
 
--- how many of the n bits from i on are set
-unfoldable pub set_bits : List ℕ → ℕ → ℕ → ℕ
-set_bits words i zero = 0
-set_bits words i (suc n) = cond (bit_of words i) 1 0 + set_bits words (i + 1) n
+-- how many of the n numbers from i on pass a test
+unfoldable pub count_from : (ℕ → Bool) → ℕ → ℕ → ℕ
+count_from p i zero = 0
+count_from p i (suc n) = cond (p i) 1 0 + count_from p (i + 1) n
+
+-- bit t of one word
+abbrev pub word_bit : ℕ → ℕ → Bool
+word_bit word t = bit_at word t == 1

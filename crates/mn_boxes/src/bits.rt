@@ -1,6 +1,6 @@
 //! Bits in a row of words: bit `i` is bit `i % 64` of word `i / 64`.
-ghost use Rattle.std.specs.Prelude.{◌≡◌, ◌≢◌, ℕ, ◌*◌, ◌<◌, ◌≤◌, ◌==◌, true, false, length, slice_index};
-ghost use Rattle.mn_boxes.specs.Bits.{bit_of, cleared, marked_at};
+ghost use Rattle.std.specs.Prelude.{◌≡◌, ◌≢◌, ℕ, ◌+◌, ◌-◌, ◌*◌, ◌^◌, ◌<◌, ◌≤◌, ◌==◌, true, false, length, slice_index, nat_le, ◌&&◌};
+ghost use Rattle.mn_boxes.specs.Bits.{bit_of, cleared, count_from, marked_at, word_bit};
 
 /// How many bits a word has.
 pub const WIDTH: usize = 64;
@@ -110,4 +110,41 @@ pub fn previous_set(words: &[u64], i: usize, start: usize) -> usize
     }
     let word = previous_word(words, i / WIDTH, start / WIDTH);
     word * WIDTH + words[word].ilog2() as usize
+}
+
+/// How many of `n` bits of a word are set, from bit `first` on.
+fn count_in(word: u64, first: usize, n: usize) -> usize
+    requires some { 1 ≤ n }
+    requires room { first + n ≤ 64 }
+    ensures count { result ≡ count_from (word_bit word) first n }
+    ensures few { result ≤ n }
+{
+    ((word >> first) & (u64::MAX >> (WIDTH - n))).count_ones() as usize
+}
+
+/// How many bits are set from bit `from` on, before bit `to`.
+pub fn count(words: &[u64], from: usize, to: usize) -> usize
+    requires order { from ≤ to }
+    requires room { to ≤ 64 * length words.now }
+    requires small { to < 2 ^ 62 }
+    ensures count { result ≡ count_from (bit_of words.now) from (to - from) }
+    ensures few { result ≤ to - from }
+{
+    let mut count = 0;
+    let mut i = from;
+    while i < to {
+        let next = to.min((i / WIDTH + 1) * WIDTH);
+        count += count_in(words[i / WIDTH], i % WIDTH, next - i);
+        i = next;
+    }
+    count
+}
+
+/// A word with the bits from `first` up to `last` set.
+pub fn run(first: usize, last: usize) -> u64
+    requires order { first ≤ last }
+    requires last { last < 64 }
+    ensures { (t : ℕ) → t < 64 → word_bit result t ≡ (nat_le first t && nat_le t last) }
+{
+    (u64::MAX >> (WIDTH - 1 - last)) & (u64::MAX << first)
 }

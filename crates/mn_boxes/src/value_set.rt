@@ -1,8 +1,9 @@
 //! Sets of values by words.
-ghost use Rattle.std.specs.Prelude.{◌≡◌, ◌*◌, ◌/◌, ◌%◌, ◌==◌, ℤ, ◌≤ℤ◌, false, not, ◌&&◌, ◌||◌, IfOk, length, replicate};
-ghost use Rattle.std.specs.Int.{bit_at, int_gap};
+ghost use Rattle.std.specs.Prelude.{◌≡◌, ◌+◌, ◌-◌, ◌*◌, ◌/◌, ◌%◌, ◌^◌, ◌<◌, ◌≤◌, ℤ, ◌≤ℤ◌, false, not, ◌&&◌, ◌||◌, IfOk, length, replicate};
+ghost use Rattle.std.specs.Int.{int_gap};
 ghost use Rattle.std.specs.Ordering.{int_eq};
 ghost use Rattle.mn_model.specs.Domain.{IsValue};
+ghost use Rattle.mn_boxes.specs.Bits.{word_bit};
 ghost use Rattle.mn_boxes.specs.Values.{IsAsWide, IsCovered, members, place_of};
 
 use super::bits::{self, WIDTH, is_set};
@@ -114,12 +115,26 @@ impl ValueSet {
     /// The word with this number, of all words that values have. The number of a value's word and its place there are those
     /// of its `place_of`.
     pub fn word(&self, number: usize) -> u64
-        ensures { (a : ℤ) → place_of a / 64 ≡ number → members self.now a ≡ (bit_at result (place_of a % 64) == 1) }
+        ensures { (a : ℤ) → place_of a / 64 ≡ number → members self.now a ≡ word_bit result (place_of a % 64) }
     {
         let first = (self.low + RAISE) as usize / WIDTH;
         if number < first || number - first >= self.words.len() {
             return 0;
         }
         self.words[number - first]
+    }
+
+    /// The bits of the 64 values from the one with this place on.
+    pub fn window(&self, place: usize) -> u64
+        requires { place < 2 ^ 62 }
+        ensures { (a : ℤ) → place ≤ place_of a → place_of a < place + 64 → members self.now a ≡ word_bit result (place_of a - place) }
+    {
+        let skipped = place % WIDTH;
+        let first = self.word(place / WIDTH);
+        if skipped == 0 {
+            return first;
+        }
+        let second = self.word(place / WIDTH + 1);
+        (first >> skipped) | (second << (WIDTH - skipped))
     }
 }
