@@ -43,6 +43,28 @@ count_from-few p i (suc n) = by (p i) (count_from-few p (i + 1) n)
     by true le = omega arith
     by false le = omega arith
 
+pub count_none : (p : ℕ → Bool) (i n : ℕ) → ((m : ℕ) → i ≤ m → m < i + n → p m ≡ false) → count_from p i n ≡ 0
+unfolding count_from
+count_none p i zero none = refl
+count_none p i (suc n) none =
+    let first : p i ≡ false = none i (omega arith) (omega arith) in
+    let rest = count_none p (i + 1) n (λ m from less. none m (omega arith) (omega arith)) in
+    ap (λ t. cond t 1 0 + count_from p (i + 1) n) first ∙ omega (arith, rest)
+
+-- where none is between j and k
+pub count_split : (p : ℕ → Bool) (i j k n : ℕ) → i ≤ j → j ≤ k → k ≤ n → ((m : ℕ) → j ≤ m → m < k → p m ≡ false) → count_from p i (n - i) ≡ count_from p i (j - i) + count_from p k (n - k)
+count_split p i j k n low order high none =
+    let long : n - i ≡ (j - i) + ((k - j) + (n - k)) = omega arith in
+    let at_j : i + (j - i) ≡ j = omega arith in
+    let at_k : j + (k - j) ≡ k = omega arith in
+    let whole = ap (count_from p i) long in
+    let first = count_from-add p i (j - i) ((k - j) + (n - k)) in
+    let second = ap (λ m. count_from p m ((k - j) + (n - k))) at_j in
+    let third = count_from-add p j (k - j) (n - k) in
+    let fourth = ap (λ m. count_from p m (n - k)) at_k in
+    let middle = count_none p j (k - j) (λ m from less. none m from (omega arith)) in
+    omega (arith, whole, first, second, third, fourth, middle)
+
 -- ---- one word
 
 small_ones : (r : ℕ) → r < 2 → count_ones r ≡ cond (r == 1) 1 0

@@ -1,4 +1,5 @@
 pub mod BoxLemmas
+pub mod Cuts
 pub mod Emptying
 pub mod EndLemmas
 pub mod Filtered
