@@ -9,6 +9,8 @@ pub mod Laying
 pub mod Marks
 pub mod Parts
 pub mod Put
+pub mod RowChange
 pub mod ShapeLemmas
+pub mod Sieve
 pub mod Standing
 pub mod Unmarking

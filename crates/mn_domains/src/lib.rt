@@ -12,6 +12,7 @@ mod doms;
 mod layout;
 mod listed;
 mod marked;
+mod rows;
 mod shape;
 mod state;
 
