@@ -99,6 +99,16 @@ impl Doms {
         self.current.ends[v.number() as usize].hi
     }
 
+    /// The least and the greatest value of the variable's set.
+    pub fn bounds(&self, v: VarId) -> (i64, i64)
+        requires { number_of v < length self.now.vars }
+        ensures low { IsFirst result.0 (set_of self.now.now.sets (number_of v)) }
+        ensures high { IsLast result.1 (set_of self.now.now.sets (number_of v)) }
+    {
+        let ends = self.current.ends[v.number() as usize];
+        (ends.lo, ends.hi)
+    }
+
     /// How many values the variable's set has.
     pub fn size(&self, v: VarId) -> u64
         requires { number_of v < length self.now.vars }
