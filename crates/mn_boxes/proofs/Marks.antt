@@ -1,17 +1,16 @@
 -- Values that are marked in words.
-use Rattle.std.proofs.Common.{◌≡◌, ℕ, ◌*◌, ◌/◌, ◌%◌, ◌^◌, ◌<◌, ◌≤◌, ◌==◌, ℤ, ◌<ℤ◌, ◌≤ℤ◌, int_lt, Bool, true, false, not, ◌&&◌, ◌||◌, cond, List, length, replicate, slice_index_or, slice_set, get_or, bit_and, bit_or, refl, sym, subst, ap, ◌∙◌, inl, inr, ◌⊎◌, arith}
+use Rattle.std.proofs.Common.{◌≡◌, ℕ, ◌*◌, ◌/◌, ◌<◌, ◌≤◌, ℤ, ◌≤ℤ◌, int_lt, Bool, true, false, not, ◌&&◌, ◌||◌, cond, List, length, replicate, slice_index_or, refl, sym, subst, ap, ◌∙◌, inl, inr, ◌⊎◌, arith}
 use Rattle.std.specs.Cmp.{signed_Decides}
-use Rattle.std.specs.Int.{bit_at, bit_not, int_gap, w64}
+use Rattle.std.specs.Int.{int_gap}
 use Rattle.std.specs.Ordering.{int_eq}
 use Rattle.std.proofs.lemmas.Bool.{cases_lt}
 use Rattle.std.proofs.lemmas.Int.{ints}
 use Rattle.std.proofs.lemmas.List.{get_or-replicate, get_or_past, length-replicate}
-use Rattle.std.proofs.lemmas.Nat.Bits.{bit_at_set_same, bit_at_set_other}
 use Rattle.mn_model.specs.Decided.{Decided, decide_int}
 use Rattle.mn_model.proofs.Stretches.{plus-int_gap}
 use Rattle.mn_boxes.specs.Bits.{bit_of, cleared, marked_at}
-use Rattle.mn_boxes.specs.Values.{Values, members}
-use Rattle.mn_boxes.proofs.Words.{bit_of-cleared, bit_of-cleared_other, bit_of-marked, bit_of-marked_other, one_bit, zero_word}
+use Rattle.mn_boxes.specs.Values.{members}
+use Rattle.mn_boxes.proofs.Words.{bit_of-cleared, bit_of-cleared_other, bit_of-marked, bit_of-marked_other, zero_word}
 
 same_test : (a b : ℤ) → a ≡ b → int_eq a b ≡ true
 same_test a b h = (signed_Decides a b).1 h

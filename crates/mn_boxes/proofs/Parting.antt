@@ -1,13 +1,13 @@
 -- Events of a change that is made in two steps.
-use Rattle.std.proofs.Common.{◌≡◌, ℕ, zero, suc, ℤ, length, Option, Some, None, List, [], ◌∷◌, ◌⊎◌, inl, inr, refl, sym, subst, ap, ◌∙◌, arith}
+use Rattle.std.proofs.Common.{◌≡◌, ℕ, zero, suc, ℤ, length, Some, List, [], ◌∷◌, ◌⊎◌, inl, inr, refl, sym, subst, ap, ◌∙◌, arith}
 use Rattle.std.proofs.lemmas.Int.{ints}
 use Rattle.mn_model.specs.Decided.{Decided, decide_nat}
-use Rattle.mn_model.specs.Domain.{Ascends, Has, IsFirst, IsLast}
-use Rattle.mn_boxes.specs.Boxes.{Inside, IsBox, set_of, variable_at}
+use Rattle.mn_model.specs.Domain.{Ascends, Has}
+use Rattle.mn_boxes.specs.Boxes.{Inside, IsBox, set_of}
 use Rattle.mn_boxes.specs.Events.{Event, Lower, Upper, Fixed, Any, Gone, Fires, Happens}
 use Rattle.mn_boxes.specs.Sets.{IsSingle, Variable, least, greatest}
 use Rattle.mn_boxes.proofs.Members.{PartOf, decide_has, decide_list, parted, same_members, stands_first, stands_last}
-use Rattle.mn_boxes.proofs.Quiet.{ascends_at, decide_option, set_or_none, some_greatest, some_least}
+use Rattle.mn_boxes.proofs.Quiet.{ascends_at, decide_option, some_greatest, some_least}
 
 -- one of the two steps does what both do together
 either_happens : (e : Event) (old mid new : List ℤ) → Happens e old new → Happens e old mid ⊎ Happens e mid new

@@ -1,18 +1,16 @@
 -- Values that are marked by bits.
-use Rattle.std.proofs.Common.{◌≡◌, ℕ, ◌+◌, ◌-◌, ◌<◌, ◌≤◌, ℤ, pos, ◌+ℤ◌, ◌-ℤ◌, ◌<ℤ◌, ◌≤ℤ◌, inl, inr, Bool, true, false, true≢false, IsTrue, ◌↔◌, int_le, List, [], ◌∷◌, length, filter, refl, sym, subst, ap, ◌∙◌, arith}
+use Rattle.std.proofs.Common.{◌≡◌, ℕ, ◌+◌, ◌-◌, ◌<◌, ◌≤◌, ℤ, pos, ◌+ℤ◌, ◌<ℤ◌, ◌≤ℤ◌, inl, inr, Bool, true, false, IsTrue, ◌↔◌, List, [], ◌∷◌, length, filter, refl, sym, subst, ap, ◌∙◌, arith}
 use Rattle.std.proofs.lemmas.Int.{ints}
 use Rattle.std.specs.Int.{int_gap}
 use Rattle.std.specs.Ordering.{int_eq}
 use Rattle.mn_model.specs.Domain.{Ascends, Has, stretch}
 use Rattle.mn_model.proofs.Stretches.{Has-stretch, plus-int_gap, Ascends-stretch}
-use Rattle.mn_model.proofs.Filtered.{Passes, filter_ascends, filter_has, has_filter}
-use Rattle.mn_model.proofs.Ordered.{le_false, le_true}
+use Rattle.mn_model.proofs.Filtered.{filter_ascends, filter_has, has_filter}
 use Rattle.mn_boxes.proofs.Members.{same_members, is_first, is_last}
-use Rattle.mn_domains.specs.Changes.{is_not}
 use Rattle.mn_domains.specs.Held.{AreEndsOf, IsRow, bit_of, has_bit, marked}
 use Rattle.mn_domains.specs.declared.shape.Ends.{Ends}
-use Rattle.mn_domains.proofs.EndLemmas.{IsBetween, has_hi, has_lo}
-use Rattle.mn_domains.proofs.Filtered.{filter-without, filter_single, filter_whole, is_filter, is_not_so, is_not_true, length-without}
+use Rattle.mn_domains.proofs.EndLemmas.{has_hi, has_lo}
+use Rattle.mn_domains.proofs.Filtered.{filter_single}
 
 -- ---- bits and values
 

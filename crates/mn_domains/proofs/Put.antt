@@ -1,5 +1,5 @@
 -- One variable's ends are put in the place of its old ones.
-use Rattle.std.proofs.Common.{◌≡◌, ℕ, zero, suc, ◌+◌, ◌*◌, ◌<◌, ℤ, Bool, List, [], ◌∷◌, length, map, filter, slice_get, slice_set, get_or, Some, Ok, sym, subst, ap, ◌∙◌, arith}
+use Rattle.std.proofs.Common.{◌≡◌, ℕ, zero, suc, ◌+◌, ◌*◌, ◌<◌, ℤ, Bool, List, [], ◌∷◌, length, filter, slice_get, slice_set, get_or, Some, Ok, sym, subst, ap, ◌∙◌, arith}
 use Rattle.std.specs.List.{AllByRecursion, AllZip}
 use Rattle.mn_model.specs.Domain.{Ascends}
 use Rattle.mn_model.proofs.Filtered.{filter_ascends, has_filter}
@@ -8,7 +8,7 @@ use Rattle.mn_boxes.specs.Events.{IsMoved}
 use Rattle.mn_boxes.specs.declared.change.Moved.{Moved}
 use Rattle.mn_boxes.proofs.Members.{parted}
 use Rattle.mn_domains.specs.Changes.{Changed, kept, with_sets}
-use Rattle.mn_domains.specs.Held.{AreEndsOf, IsHeld, IsKept, IsShape, IsState, TellsMoved, sets_held, sets_of_state, values_held, variable_held}
+use Rattle.mn_domains.specs.Held.{AreEndsOf, IsHeld, IsKept, IsShape, IsState, TellsMoved, sets_held, sets_of_state, values_held}
 use Rattle.mn_domains.specs.Sets.{Sets}
 use Rattle.mn_domains.specs.declared.shape.Ends.{Ends}
 use Rattle.mn_domains.specs.declared.shape.Shape.{Shape}

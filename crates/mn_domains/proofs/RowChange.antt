@@ -1,28 +1,23 @@
 -- Some bits of one variable are changed.
-use Rattle.std.proofs.Common.{◌≡◌, ℕ, zero, suc, ◌+◌, ◌-◌, ◌*◌, ◌/◌, ◌<◌, ◌≤◌, ℤ, ◌<ℤ◌, ◌≤ℤ◌, ◌⊎◌, inl, inr, Bool, true, false, true≢false, IsTrue, List, [], ◌∷◌, ◌++◌, length, map, filter, slice_get, slice_set, get_or, Some, Ok, refl, sym, subst, ap, ◌∙◌, arith}
+use Rattle.std.proofs.Common.{◌≡◌, ℕ, zero, suc, ◌+◌, ◌*◌, ◌<◌, ◌≤◌, ℤ, ◌≤ℤ◌, ◌⊎◌, inl, inr, Bool, List, [], ◌∷◌, length, filter, slice_get, slice_set, get_or, Some, Ok, refl, sym, subst, ap, ◌∙◌, arith}
 use Rattle.std.proofs.lemmas.Int.{ints}
-use Rattle.std.proofs.lemmas.List.{length-set, set-get_or}
 use Rattle.std.specs.Int.{int_gap}
 use Rattle.std.specs.List.{AllByRecursion, AllZip}
 use Rattle.mn_model.specs.Domain.{Has, stretch}
 use Rattle.mn_model.proofs.Stretches.{Has-stretch, plus-int_gap}
-use Rattle.mn_model.proofs.Filtered.{Passes}
 use Rattle.mn_boxes.specs.Boxes.{count_of, set_of}
 use Rattle.mn_boxes.specs.Events.{IsMoved}
-use Rattle.mn_boxes.specs.Sets.{IsEnd, MayGo, Variable}
 use Rattle.mn_boxes.specs.declared.change.Moved.{Moved}
-use Rattle.mn_domains.specs.Changes.{Changed, is_not, with_sets}
-use Rattle.mn_domains.specs.Held.{AreApartFrom, AreEndsOf, IsHeld, IsKept, IsShape, IsState, TellsBit, TellsMoved, bit_of, cleared, has_bit, is_bounded_shape, marked, sets_held, sets_of_state, values_held, variable_held}
+use Rattle.mn_domains.specs.Changes.{Changed, with_sets}
+use Rattle.mn_domains.specs.Held.{AreApartFrom, AreEndsOf, IsHeld, IsKept, IsShape, IsState, TellsMoved, bit_of, has_bit, marked, sets_held, sets_of_state, values_held}
 use Rattle.mn_domains.specs.Sets.{Sets}
-use Rattle.mn_domains.specs.States.{Unmarks, UnmarksIf, one_less}
 use Rattle.mn_domains.specs.declared.shape.Ends.{Ends}
 use Rattle.mn_domains.specs.declared.shape.Shape.{Shape}
 use Rattle.mn_domains.specs.declared.shape.Shape.TheVariants.{Stretch, Listed, Bits}
 use Rattle.mn_domains.specs.declared.state.State.{State}
-use Rattle.mn_domains.proofs.Filtered.{filter_alike, is_filter, is_not_so, is_not_true, length-without}
-use Rattle.mn_domains.proofs.Marks.{Ascends-marked, high_mark, is_marked, low_mark, marked_ends, marked_has}
-use Rattle.mn_domains.proofs.Put.{PutAt, changed_put, count_of-set, kept_put, moved_sets}
-use Rattle.mn_domains.proofs.ShapeLemmas.{without_none}
+use Rattle.mn_domains.proofs.Filtered.{filter_alike}
+use Rattle.mn_domains.proofs.Marks.{Ascends-marked}
+use Rattle.mn_domains.proofs.Put.{count_of-set, moved_sets}
 use Rattle.mn_domains.proofs.Standing.{known, seen, length-sets_held, stands_at}
 
 -- none of the bits from i to j is one of the shape's

@@ -1,5 +1,5 @@
 -- How the sets are held.
-use Rattle.std.specs.Prelude.{◌≡◌, ◌≢◌, ◌↔◌, IsTrue, ℕ, ◌+◌, ◌*◌, ◌/◌, ◌%◌, ◌<◌, ◌≤◌, ◌==◌, ℤ, ◌<ℤ◌, ◌≤ℤ◌, Option, Some, None, Bool, true, false, List, [], ◌∷◌, filter, length, slice_index, slice_range, slice_set, bit_and, take, drop, ◌^◌}
+use Rattle.std.specs.Prelude.{◌≡◌, ◌≢◌, ◌↔◌, IsTrue, ℕ, ◌+◌, ◌*◌, ◌<◌, ◌≤◌, ℤ, ◌<ℤ◌, ◌≤ℤ◌, Option, Some, None, Bool, true, false, List, [], ◌∷◌, filter, length, slice_range, take, drop, ◌^◌}
 use Rattle.std.specs.Int.{int_gap}
 use Rattle.std.specs.List.{AllByRecursion, AllZip}
 use Rattle.mn_model.specs.Domain.{Ascends, IsFirst, IsLast, IsValue, stretch}

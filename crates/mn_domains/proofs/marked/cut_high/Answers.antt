@@ -1,4 +1,4 @@
-use Rattle.std.proofs.Common.{◌≡◌, ◌+◌, ◌-◌, ◌<◌, ◌^◌, ◌≤ℤ◌, FitsSigned, Fits, ap, ◌∙◌, rules, w64, arith}
+use Rattle.std.proofs.Common.{◌≡◌, ◌+◌, ◌-◌, ◌<◌, ◌^◌, ◌≤ℤ◌, FitsSigned, rules, w64, arith}
 use Rattle.std.specs.Int.{int_gap}
 use Rattle.std.proofs.lemmas.Int.{ints, to_z-of_z}
 use Rattle.mn_boxes.specs.Bits.{bit_of, count_from}

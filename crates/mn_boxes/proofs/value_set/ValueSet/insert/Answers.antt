@@ -1,4 +1,4 @@
-use Rattle.std.proofs.Common.{w64, ◌<◌, ◌≡◌, ◌*◌, ℕ, List, FitsSigned, length, ap, sym, subst, ◌∙◌, not, ◌&&◌, ◌||◌, rules}
+use Rattle.std.proofs.Common.{w64, ◌≡◌, ℕ, List, FitsSigned, ap, sym, subst, ◌∙◌, ◌||◌, rules}
 use Rattle.std.specs.Int.{int_gap}
 use Rattle.std.specs.Ordering.{int_eq}
 use Rattle.std.proofs.lemmas.Int.{to_z-of_z}

@@ -1,5 +1,3 @@
-use Rattle.std.proofs.Common.{List, ℕ, ◌≡◌, replicate, subst, sym, false}
-use Rattle.mn_boxes.specs.Values.{members}
 use Rattle.mn_boxes.proofs.Marks.{members_zeros}
 use Rattle.mn_boxes.proofs.value_set.ValueSet.new.Goals as goal
 

@@ -1,6 +1,5 @@
 use Rattle.std.proofs.Common.{◌<◌, ◌^◌, rules, arith}
-use Rattle.std.proofs.lemmas.Bool.{cases_lt}
-use Rattle.mn_domains.proofs.Sieve.{hit_before, hit_behind, hit_here, none_next}
+use Rattle.mn_domains.proofs.Sieve.{hit_before, hit_here, none_next}
 use Rattle.mn_domains.proofs.rows.Row.first_hit.Goals as goal
 
 pub loop-word-init : goal.loop-word-init
