@@ -9,11 +9,10 @@
 //! `mn_prop`, and for its definitions on `mn_boxes`, `mn_closure`, `mn_domains`, `mn_meaning`, `mn_model` and `mn_order`.
 #![tactic(auto)]
 
+mod branching;
 mod laws;
+mod path;
 mod search;
-mod stack;
-mod tree;
-mod turns;
 
 pub use laws::{
     paths_are_ordered, solutions_are_visited, visited_boxes_hold_assignments, visits_are_few,
