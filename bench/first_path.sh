@@ -9,7 +9,10 @@
 set -u
 cd -- "$(dirname -- "${BASH_SOURCE[0]}")/.." || exit 1
 
-program=crates/minion/out/minion
+here=.
+. bin/program.sh
+# This builds the program where it isn't built, which is not timed.
+find_program || exit 1
 room="$(mktemp -d)" || exit 1
 trap 'rm -rf -- "$room"' EXIT
 
@@ -59,9 +62,6 @@ free_variables 2 >"$room/two"
 free_variables 20 >"$room/twenty"
 many_lines 32768 >"$room/half"
 many_lines 65536 >"$room/whole"
-
-# This builds the program where it isn't built, which is not timed.
-./minion -findallsols "$room/two" >/dev/null || exit 1
 
 measure '2 variables, 4 solutions' "$room/two" file
 measure '20 variables, 1,048,576 solutions' "$room/twenty" file

@@ -7,7 +7,10 @@
 set -u
 cd -- "$(dirname -- "${BASH_SOURCE[0]}")/.." || exit 1
 
-program=crates/minion/out/minion
+here=.
+. bin/program.sh
+# This builds the program where it isn't built, which is not timed.
+find_program || exit 1
 room="$(mktemp -d)" || exit 1
 trap 'rm -rf -- "$room"' EXIT
 
@@ -80,9 +83,6 @@ chain backward >"$room/backward"
 span >"$room/span"
 queens >"$room/queens"
 solutions >"$room/solutions"
-
-# This builds the program where it isn't built, which is not timed.
-./minion "$room/span" >/dev/null || exit 1
 
 measure '200,000 ineq over 1,000 variables, read' "$room/inequalities"
 measure 'a tuple list of 4,000,000 cells, read' "$room/tuples"

@@ -1,4 +1,5 @@
--- The reader of the section that says how to search. No public promise speaks of it.
+-- The reader of the section that says how to search: what `search` answers, token by token. That it reads exactly the language of
+-- `Search.antt` is a law of its own.
 use Rattle.std.specs.Prelude.{ℕ, ◌⊎◌, Bool, true, false, List, [], ◌∷◌, length, Option, None, codes}
 use Rattle.std.proofs.Common.{inl, inr}
 use Rattle.mn_lexer.specs.Terminals.{Terminal, word, mark}

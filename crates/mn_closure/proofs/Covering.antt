@@ -24,8 +24,9 @@ use Rattle.mn_meaning.specs.Laws.{IsZeroOrOne}
 use Rattle.mn_meaning.proofs.Meant.{bit_of}
 use Rattle.mn_closure.specs.Closed.{Asked, LeafClosed, signed, bit, IfSays, IfApart, IsAlone, PartsPossible, OnePossible, TwoPossible, PartsClosed, OneClosed, EachClosed, Closed, is_taken_apart}
 use Rattle.mn_closure.specs.Closures.{join}
+use Rattle.mn_closure.specs.Deciding.{ends_alone}
 use Rattle.mn_closure.specs.Laws.{declared_sets}
-use Rattle.mn_closure.specs.Levels.{Level, Arc, Fixed, Hull, Last, level}
+use Rattle.mn_closure.specs.Levels.{Level, Hull, level}
 use Rattle.mn_closure.proofs.Joined.{Joins, Spans, has_either, joins_at, is_join}
 use Rattle.mn_closure.proofs.Wider.{wider_place, wider_supported, wider_parts, wider_one, wider_two}
 
@@ -81,17 +82,6 @@ asked_of P bounded xs ys js (inr none) unbounded up_x up_y j a asked = elim (has
   | inr y ↦ inr (y, λ q. absurd (none q))
 ]
 
--- whether the ends alone are asked for
-is_hull : (l : Level) → Decided (l ≡ Hull)
-is_hull Arc = inr (λ e. cc)
-is_hull Fixed = inr (λ e. cc)
-is_hull Hull = inl refl
-is_hull Last = inr (λ e. cc)
-
-ends_alone : (bounded : Bool) (l : Level) → Decided (bounded ≡ true ⊎ (l ≡ Hull))
-ends_alone true l = inl (inl refl)
-ends_alone false l = elim (is_hull l) [ inl hull ↦ inl (inr hull) | inr none ↦ inr (λ either. ⊎_elim (λ e. cc) none either) ]
-
 not_bounded : (bounded : Bool) (l : Level) → (bounded ≡ true ⊎ (l ≡ Hull) → ⊥) → bounded ≡ false
 not_bounded true l none = absurd (none (inl refl))
 not_bounded false l none = refl
@@ -124,7 +114,7 @@ leaf_join vars lists c one another cover k first second = record {
 }
 
 -- a 0/1 variable has in the cover what it has in one of the two
-declared_has : (vars : List Variable) (box : List (List ℤ)) (v : ℕ) (a : ℤ) → IsBox vars box → AreBits (slice_get (declared_sets vars) v) → Has (set_of box v) a → IsZeroOrOne a
+pub declared_has : (vars : List Variable) (box : List (List ℤ)) (v : ℕ) (a : ℤ) → IsBox vars box → AreBits (slice_get (declared_sets vars) v) → Has (set_of box v) a → IsZeroOrOne a
 declared_has [] [] v a is zeros has = absurd has
 declared_has [] (xs ∷ box) v a is zeros has = absurd is
 declared_has (var ∷ vars) [] v a is zeros has = absurd is

@@ -1,8 +1,14 @@
+pub mod Computing
 pub mod Covering
 pub mod Denied
 pub mod Joined
+pub mod Meetable
 pub mod Only
+pub mod Readying
+pub mod Same
+pub mod Shown
 pub mod Singles
 pub mod Solved
 pub mod Solving
+pub mod Turned
 pub mod Wider

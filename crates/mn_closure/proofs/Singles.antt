@@ -19,7 +19,7 @@ use Rattle.mn_meaning.specs.Meaning.{at, value_of, Meets, Holds}
 use Rattle.mn_closure.specs.Closed.{Asked, LeafClosed}
 use Rattle.mn_closure.specs.Closures.{singles}
 use Rattle.mn_closure.specs.Levels.{Level, Arc, Fixed, Hull, Last, level_of, level_when, is_built, level}
-use Rattle.mn_closure.specs.Supports.{Choice, SomeChoice, ChoiceWith, StandsAt, IsOpen, NoneElse, IsWithin, SomeWithin, HullSupported, HullSupports, SupportedAt, LeafPossibleAt, product, difference}
+use Rattle.mn_closure.specs.Supports.{Choice, SomeChoice, ChoiceWith, StandsAt, IsOpen, NoneElse, IsBetweenEnds, SomeBetweenEnds, HullSupported, HullSupports, SupportedAt, LeafPossibleAt, product, difference}
 
 -- the term names one of n variables, or none
 abbrev pub Known : ℕ → Term → Type 0
@@ -166,10 +166,10 @@ differ_all f (w ∷ ts) all (suc i) zero t u at_t at_u other = let same : w ≡ 
 differ_all f (w ∷ ts) all (suc i) (suc j) t u at_t at_u other = differ_all f ts all.1 i j t u at_t at_u (λ e. other (ap suc e))
 
 -- a number between the ends is the value
-within_is : (s : List ℤ) (t : Term) (b : ℤ) → IsWithin (singles s) t b → value_of (at s) t ≡ b
+within_is : (s : List ℤ) (t : Term) (b : ℤ) → IsBetweenEnds (singles s) t b → value_of (at s) t ≡ b
 within_is s t b w = let low = place_is s t w.low w.has_low in let high = place_is s t w.high w.has_high in omega (arith, ints, low, high, w.from, w.to)
 
-within : (s : List ℤ) (t : Term) → Known (length s) t → IsWithin (singles s) t (value_of (at s) t)
+within : (s : List ℤ) (t : Term) → Known (length s) t → IsBetweenEnds (singles s) t (value_of (at s) t)
 within s t known = record {
   low = value_of (at s) t;
   high = value_of (at s) t;
@@ -179,10 +179,10 @@ within s t known = record {
   to = omega (arith, ints);
 }
 
-some_within : (s : List ℤ) (t u : Term) (R : ℤ → ℤ → Type 0) → Known (length s) t → Known (length s) u → R (value_of (at s) t) (value_of (at s) u) → SomeWithin (singles s) t u R
+some_within : (s : List ℤ) (t u : Term) (R : ℤ → ℤ → Type 0) → Known (length s) t → Known (length s) u → R (value_of (at s) t) (value_of (at s) u) → SomeBetweenEnds (singles s) t u R
 some_within s t u R known_t known_u related = record { first = value_of (at s) t; second = value_of (at s) u; within_first = within s t known_t; within_second = within s u known_u; related = related }
 
-within_related : (s : List ℤ) (t u : Term) (R : ℤ → ℤ → Type 0) → SomeWithin (singles s) t u R → R (value_of (at s) t) (value_of (at s) u)
+within_related : (s : List ℤ) (t u : Term) (R : ℤ → ℤ → Type 0) → SomeBetweenEnds (singles s) t u R → R (value_of (at s) t) (value_of (at s) u)
 within_related s t u R some = subst (λ a. R a (value_of (at s) u)) (sym (within_is s t some.first some.within_first)) (subst (R some.first) (sym (within_is s u some.second some.within_second)) some.related)
 
 hull_holds : (s : List ℤ) (f : ℤ → ℤ → ℤ) (x y z : Term) → HullSupported f x y z 0 (value_of (at s) x) (singles s) → value_of (at s) z ≡ f (value_of (at s) x) (value_of (at s) y)

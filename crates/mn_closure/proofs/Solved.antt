@@ -1,9 +1,9 @@
 -- A box of single values is closed under a constraint exactly where the constraint holds, and under its negation where not.
-use Rattle.std.proofs.Common.{◌≡◌, ℕ, ℤ, pos, negsuc, ◌⊎◌, inl, inr, ⊎_elim, ◌↔◌, Bool, true, false, not, List, [], ◌∷◌, ◌++◌, length, map, refl, sym, ◌∙◌, arith}
+use Rattle.std.proofs.Common.{◌≡◌, ℕ, ℤ, pos, ◌⊎◌, inl, inr, ⊎_elim, ◌↔◌, Bool, true, false, not, List, [], ◌∷◌, length, map, refl, sym, ◌∙◌, arith}
 use Rattle.std.proofs.lemmas.Int.{ints}
 use Rattle.std.specs.List.{AllByRecursion}
 use Rattle.mn_model.specs.Decided.{Decided, decide_int}
-use Rattle.mn_model.specs.Negation.{negation, negations, other}
+use Rattle.mn_model.specs.Negation.{negation, other}
 use Rattle.mn_model.specs.Parts.{places, places_of, bits, bits_of, IsShaped, AreShaped}
 use Rattle.mn_model.specs.declared.constraint.Con.{Con}
 use Rattle.mn_model.specs.declared.constraint.Cons.{Cons}
@@ -12,7 +12,7 @@ use Rattle.mn_model.specs.declared.constraint.Con.TheBlock.{more_of-Con, more_of
 use Rattle.mn_model.specs.declared.constraint.Term.{Term}
 use Rattle.mn_model.specs.declared.constraint.Term.TheVariants.{Var, Const, Not}
 use Rattle.mn_model.specs.declared.declaration.Tuples.{Tuples}
-use Rattle.mn_model.proofs.Lists.{all_append, all_back, all_front}
+use Rattle.mn_model.proofs.Lists.{all_back, all_front}
 use Rattle.mn_boxes.specs.Places.{PlaceHas}
 use Rattle.mn_boxes.specs.Sets.{Variable}
 use Rattle.mn_meaning.specs.Laws.{IsZeroOrOne, BitsAreBits}
@@ -23,43 +23,17 @@ use Rattle.mn_closure.specs.Closures.{singles}
 use Rattle.mn_closure.specs.Levels.{level}
 use Rattle.mn_closure.specs.Supports.{LeafPossible}
 use Rattle.mn_closure.proofs.Covering.{closed_possible}
+use Rattle.mn_closure.proofs.Turned.{all_signed}
 use Rattle.mn_closure.proofs.Singles.{Known, place_is, place_has, possible_holds, holds_possible, leaf_holds, holds_leaf}
 
 -- the negation names the same variables
-known_other : (n : ℕ) (r : Term) → Known n r → Known n (other r)
-known_other n (Var v) known = known
-known_other n (Const k) known = tt
-known_other n (Not v) known = known
+known_turned : (n : ℕ) (r : Term) → Unit {0} → Known n r → Known n (other r)
+known_turned n (Var v) bit known = known
+known_turned n (Const k) bit known = tt
+known_turned n (Not v) bit known = known
 
-swapped : (n : ℕ) (v w : List Term) → AllByRecursion (Known n) (v ++ w) → AllByRecursion (Known n) (w ++ v)
-swapped n v w known = all_append (Known n) w v (all_back (Known n) v w known) (all_front (Known n) v w known)
-
-longer : (n : ℕ) (v : List Term) (k : ℤ) → AllByRecursion (Known n) v → AllByRecursion (Known n) (v ++ Const k ∷ [])
-longer n v k known = all_append (Known n) v (Const k ∷ []) known (tt, tt)
-
-mutual
-  pub known_negation : (n : ℕ) (c : Con) → AllByRecursion (Known n) (places c) → AllByRecursion (Known n) (places (negation c))
-  known_negation n (con.Ineq x y k) known = (known.1.0, (known.0, tt))
-  known_negation n (con.Watchless x y) known = (known.1.0, (known.0, tt))
-  known_negation n (con.Sumleq v x) known = longer n (v ++ x ∷ []) (pos 1) known
-  known_negation n (con.Sumgeq v x) known = longer n (v ++ x ∷ []) (negsuc 0) known
-  known_negation n (con.Weightedsumleq ks v x) known = longer n (v ++ x ∷ []) (pos 1) known
-  known_negation n (con.Weightedsumgeq ks v x) known = longer n (v ++ x ∷ []) (negsuc 0) known
-  known_negation n (con.Lexleq v w) known = swapped n v w known
-  known_negation n (con.Lexless v w) known = swapped n v w known
-  known_negation n (con.WatchedOr cs) known = known_negations n cs known
-  known_negation n (con.WatchedAnd cs) known = known_negations n cs known
-  known_negation n (con.Reify' p (more_of-Con c none) r) known =
-      all_append (Known n) (places c) (other r ∷ []) (all_front (Known n) (places c) (r ∷ []) known) (known_other n r (all_back (Known n) (places c) (r ∷ []) known).0, tt)
-  known_negation n (con.Reifyimply' p (more_of-Con c none) r) known =
-      ((all_back (Known n) (places c) (r ∷ []) known).0, all_append (Known n) (places (negation c)) [] (known_negation n c (all_front (Known n) (places c) (r ∷ []) known)) tt)
-  known_negation n (con.Negated' p (more_of-Con c none)) known = known
-  known_negation n c known = known
-
-  known_negations : (n : ℕ) (cs : Cons) → AllByRecursion (Known n) (places_of cs) → AllByRecursion (Known n) (places_of (negations cs))
-  known_negations n con.End known = tt
-  known_negations n (con.More' p (more_of-Con c none) q (more_of-Cons cs nothing)) known =
-      all_append (Known n) (places (negation c)) (places_of (negations cs)) (known_negation n c (all_front (Known n) (places c) (places_of cs) known)) (known_negations n cs (all_back (Known n) (places c) (places_of cs) known))
+known_negation : (n : ℕ) (c : Con) → AllByRecursion (Known n) (places c) → AllByRecursion (Known n) (places (negation c))
+known_negation n c known = all_signed (Known n) (record { one = tt; less = tt; turned = known_turned n }) false c known
 
 -- what is so exactly where something else is
 pub through : {P Q R : Type 0} → P ↔ Q → Q ↔ R → P ↔ R
@@ -84,7 +58,7 @@ abbrev pub Says : Bool → Type 0 → Type 0
 Says says P = IfSays says P (P → ⊥)
 
 -- 0/1 terms
-bit_is : (says : Bool) (b : ℤ) → IsZeroOrOne b → (b ≡ bit says) ⊎ (b ≡ bit (not says))
+pub bit_is : (says : Bool) (b : ℤ) → IsZeroOrOne b → (b ≡ bit says) ⊎ (b ≡ bit (not says))
 bit_is true b (inl none) = inr none
 bit_is true b (inr one) = inl one
 bit_is false b (inl none) = inl none
@@ -209,7 +183,7 @@ some_fails lists s (con.More' p (more_of-Con c none) q (more_of-Cons cs nothing)
     rw (front_is (value_of (at s)) (places c) (places_of cs), rest_is (value_of (at s)) (places c) (places_of cs))
     (not_both (decide_meets lists c (map (value_of (at s)) (places c))) (some_fails lists s cs))
 
-two_one : (lists : List Tuples) (cs : Cons) (says : Bool) (box : List (List ℤ)) → TwoPossible lists cs says box → OnePossible lists cs says box
+pub two_one : (lists : List Tuples) (cs : Cons) (says : Bool) (box : List (List ℤ)) → TwoPossible lists cs says box → OnePossible lists cs says box
 two_one lists con.End says box two = two
 two_one lists (con.More' p (more_of-Con c none) q (more_of-Cons cs nothing)) says box (inl both) = inl both.0
 two_one lists (con.More' p (more_of-Con c none) q (more_of-Cons cs nothing)) says box (inr later) = inr (two_one lists cs says box later)

@@ -14,18 +14,54 @@ pub data Level : Type 0 where
 
 -- the level of each form in the language (this project's profile of the Minion manual)
 abbrev pub level_of : Con → Level
+level_of (con.Eq x y) = Arc
+level_of (con.Diseq x y) = Arc
+level_of (con.Ineq x y k) = Arc
+level_of (con.Watchless x y) = Arc
+level_of (con.Minuseq x y) = Arc
+level_of (con.Abs x y) = Arc
 level_of (con.Difference x y z) = Hull
 level_of (con.Product x y z) = Hull
 level_of (con.Div x y z) = Last
 level_of (con.Modulo x y z) = Last
+level_of (con.Max v x) = Arc
+level_of (con.Min v x) = Arc
+level_of (con.Sumleq v x) = Arc
+level_of (con.Sumgeq v x) = Arc
+level_of (con.Weightedsumleq ks v x) = Arc
+level_of (con.Weightedsumgeq ks v x) = Arc
+level_of (con.Watchsumleq v k) = Arc
+level_of (con.Watchsumgeq v k) = Arc
+level_of (con.Litsumgeq v ks k) = Arc
+level_of (con.Element v x y) = Arc
+level_of (con.Watchelement v x y) = Arc
+level_of (con.ElementOne v x y) = Arc
+level_of (con.WatchelementOne v x y) = Arc
+level_of (con.Table v tab) = Arc
+level_of (con.Negativetable v tab) = Arc
 level_of (con.Alldiff v) = Fixed
+level_of (con.Lexleq v w) = Arc
+level_of (con.Lexless v w) = Arc
+level_of (con.Watchvecneq v w) = Arc
+level_of (con.Hamming v w k) = Arc
+level_of (con.Occurrence v k x) = Arc
+level_of (con.Occurrenceleq v k k2) = Arc
+level_of (con.Occurrencegeq v k k2) = Arc
 level_of (con.Nvalueleq v x) = Last
+level_of (con.WLiteral x k) = Arc
+level_of (con.WNotliteral x k) = Arc
+level_of (con.WInset x ks) = Arc
+level_of (con.WNotinset x ks) = Arc
+level_of (con.WInrange x k k2) = Arc
+level_of (con.WNotinrange x k k2) = Arc
+level_of (con.WInintervalset x ks) = Arc
+level_of con.Always = Arc
+level_of con.Never = Arc
 level_of (con.WatchedOr cs) = Last
 level_of (con.WatchedAnd cs) = Last
 level_of (con.Reify' p (more_of-Con c none) r) = Last
 level_of (con.Reifyimply' p (more_of-Con c none) r) = Last
 level_of (con.Negated' p (more_of-Con c none)) = Last
-level_of c = Arc
 
 -- the forms that have a propagator of their own today
 abbrev pub is_built : Con → Bool
@@ -35,6 +71,34 @@ is_built (con.Ineq x y k) = true
 is_built (con.Watchless x y) = true
 is_built (con.Minuseq x y) = true
 is_built (con.Abs x y) = true
+is_built (con.Difference x y z) = false
+is_built (con.Product x y z) = false
+is_built (con.Div x y z) = false
+is_built (con.Modulo x y z) = false
+is_built (con.Max v x) = false
+is_built (con.Min v x) = false
+is_built (con.Sumleq v x) = false
+is_built (con.Sumgeq v x) = false
+is_built (con.Weightedsumleq ks v x) = false
+is_built (con.Weightedsumgeq ks v x) = false
+is_built (con.Watchsumleq v k) = false
+is_built (con.Watchsumgeq v k) = false
+is_built (con.Litsumgeq v ks k) = false
+is_built (con.Element v x y) = false
+is_built (con.Watchelement v x y) = false
+is_built (con.ElementOne v x y) = false
+is_built (con.WatchelementOne v x y) = false
+is_built (con.Table v tab) = false
+is_built (con.Negativetable v tab) = false
+is_built (con.Alldiff v) = false
+is_built (con.Lexleq v w) = false
+is_built (con.Lexless v w) = false
+is_built (con.Watchvecneq v w) = false
+is_built (con.Hamming v w k) = false
+is_built (con.Occurrence v k x) = false
+is_built (con.Occurrenceleq v k k2) = false
+is_built (con.Occurrencegeq v k k2) = false
+is_built (con.Nvalueleq v x) = false
 is_built (con.WLiteral x k) = true
 is_built (con.WNotliteral x k) = true
 is_built (con.WInset x ks) = true
@@ -44,7 +108,11 @@ is_built (con.WNotinrange x k k2) = true
 is_built (con.WInintervalset x ks) = true
 is_built con.Always = true
 is_built con.Never = true
-is_built c = false
+is_built (con.WatchedOr cs) = false
+is_built (con.WatchedAnd cs) = false
+is_built (con.Reify' p c r) = false
+is_built (con.Reifyimply' p c r) = false
+is_built (con.Negated' p c) = false
 
 -- until it has one it is narrowed as a form of level Last
 abbrev pub level_when : Bool → Level → Level

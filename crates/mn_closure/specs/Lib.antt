@@ -1,5 +1,11 @@
+pub mod Candidates
 pub mod Closed
 pub mod Closures
+pub mod Computed
+pub mod Deciding
+pub mod Forms
 pub mod Laws
 pub mod Levels
+pub mod Ready
+pub mod Seen
 pub mod Supports

@@ -61,7 +61,7 @@ abbrev pub NoneElse : Con → ℕ → ℤ → List (List ℤ) → Type 0
 NoneElse c i a box = (j : ℕ) (t : Term) → StandsAt c j t → j ≢ i → (b : ℤ) × PlaceHas box t b × (b ≢ a)
 
 -- b is between the ends of the place, which is: between two of its values
-pub record IsWithin (box : List (List ℤ)) (t : Term) (b : ℤ) : Type 0 where
+pub record IsBetweenEnds (box : List (List ℤ)) (t : Term) (b : ℤ) : Type 0 where
   pub low : ℤ
   pub high : ℤ
   pub has_low : PlaceHas box t low
@@ -70,17 +70,17 @@ pub record IsWithin (box : List (List ℤ)) (t : Term) (b : ℤ) : Type 0 where
   pub to : b ≤ℤ high
 
 -- there are numbers between the ends of t and u that stand in R
-pub record SomeWithin (box : List (List ℤ)) (t u : Term) (R : ℤ → ℤ → Type 0) : Type 0 where
+pub record SomeBetweenEnds (box : List (List ℤ)) (t u : Term) (R : ℤ → ℤ → Type 0) : Type 0 where
   pub first : ℤ
   pub second : ℤ
-  pub within_first : IsWithin box t first
-  pub within_second : IsWithin box u second
+  pub within_first : IsBetweenEnds box t first
+  pub within_second : IsBetweenEnds box u second
   pub related : R first second
 
 -- a is between the least and the greatest that f gives of numbers between the ends of x and y
 pub record IsReached (box : List (List ℤ)) (x y : Term) (f : ℤ → ℤ → ℤ) (a : ℤ) : Type 0 where
-  pub below : SomeWithin box x y (λ b c. f b c ≤ℤ a)
-  pub above : SomeWithin box x y (λ b c. a ≤ℤ f b c)
+  pub below : SomeBetweenEnds box x y (λ b c. f b c ≤ℤ a)
+  pub above : SomeBetweenEnds box x y (λ b c. a ≤ℤ f b c)
 
 abbrev pub product : ℤ → ℤ → ℤ
 product a b = a *ℤ b
@@ -91,15 +91,60 @@ difference a b = pos (nat_abs (a -ℤ b))
 -- what f gives of x and y is z, where they are numbers between their ends: so it is with a at a place. The least and the
 -- greatest product are at the ends themselves
 abbrev pub HullSupported : (ℤ → ℤ → ℤ) → Term → Term → Term → ℕ → ℤ → List (List ℤ) → Type 0
-HullSupported f x y z zero a box = SomeWithin box y z (λ b c. f a b ≡ c)
-HullSupported f x y z (suc zero) a box = SomeWithin box x z (λ b c. f b a ≡ c)
+HullSupported f x y z zero a box = SomeBetweenEnds box y z (λ b c. f a b ≡ c)
+HullSupported f x y z (suc zero) a box = SomeBetweenEnds box x z (λ b c. f b a ≡ c)
 HullSupported f x y z (suc (suc i)) a box = IsReached box x y f a
 
 -- no form but these two has the level Hull
 abbrev pub HullSupports : Con → ℕ → ℤ → List (List ℤ) → Type 0
-HullSupports (con.Product x y z) i a box = HullSupported product x y z i a box
+HullSupports (con.Eq x y) i a box = ⊥
+HullSupports (con.Diseq x y) i a box = ⊥
+HullSupports (con.Ineq x y k) i a box = ⊥
+HullSupports (con.Watchless x y) i a box = ⊥
+HullSupports (con.Minuseq x y) i a box = ⊥
+HullSupports (con.Abs x y) i a box = ⊥
 HullSupports (con.Difference x y z) i a box = HullSupported difference x y z i a box
-HullSupports c i a box = ⊥
+HullSupports (con.Product x y z) i a box = HullSupported product x y z i a box
+HullSupports (con.Div x y z) i a box = ⊥
+HullSupports (con.Modulo x y z) i a box = ⊥
+HullSupports (con.Max v x) i a box = ⊥
+HullSupports (con.Min v x) i a box = ⊥
+HullSupports (con.Sumleq v x) i a box = ⊥
+HullSupports (con.Sumgeq v x) i a box = ⊥
+HullSupports (con.Weightedsumleq ks v x) i a box = ⊥
+HullSupports (con.Weightedsumgeq ks v x) i a box = ⊥
+HullSupports (con.Watchsumleq v k) i a box = ⊥
+HullSupports (con.Watchsumgeq v k) i a box = ⊥
+HullSupports (con.Litsumgeq v ks k) i a box = ⊥
+HullSupports (con.Element v x y) i a box = ⊥
+HullSupports (con.Watchelement v x y) i a box = ⊥
+HullSupports (con.ElementOne v x y) i a box = ⊥
+HullSupports (con.WatchelementOne v x y) i a box = ⊥
+HullSupports (con.Table v tab) i a box = ⊥
+HullSupports (con.Negativetable v tab) i a box = ⊥
+HullSupports (con.Alldiff v) i a box = ⊥
+HullSupports (con.Lexleq v w) i a box = ⊥
+HullSupports (con.Lexless v w) i a box = ⊥
+HullSupports (con.Watchvecneq v w) i a box = ⊥
+HullSupports (con.Hamming v w k) i a box = ⊥
+HullSupports (con.Occurrence v k x) i a box = ⊥
+HullSupports (con.Occurrenceleq v k k2) i a box = ⊥
+HullSupports (con.Occurrencegeq v k k2) i a box = ⊥
+HullSupports (con.Nvalueleq v x) i a box = ⊥
+HullSupports (con.WLiteral x k) i a box = ⊥
+HullSupports (con.WNotliteral x k) i a box = ⊥
+HullSupports (con.WInset x ks) i a box = ⊥
+HullSupports (con.WNotinset x ks) i a box = ⊥
+HullSupports (con.WInrange x k k2) i a box = ⊥
+HullSupports (con.WNotinrange x k k2) i a box = ⊥
+HullSupports (con.WInintervalset x ks) i a box = ⊥
+HullSupports con.Always i a box = ⊥
+HullSupports con.Never i a box = ⊥
+HullSupports (con.WatchedOr cs) i a box = ⊥
+HullSupports (con.WatchedAnd cs) i a box = ⊥
+HullSupports (con.Reify' p c r) i a box = ⊥
+HullSupports (con.Reifyimply' p c r) i a box = ⊥
+HullSupports (con.Negated' p c) i a box = ⊥
 
 -- the value a at place i is supported in the box, at a level and at that of the constraint
 abbrev pub SupportedAt : Level → List Tuples → Con → ℕ → ℤ → List (List ℤ) → Type 0

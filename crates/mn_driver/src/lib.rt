@@ -22,6 +22,8 @@ pub use program::run;
 pub use status::{Ended, Status};
 
 #[cfg(test)]
+mod fixture;
+#[cfg(test)]
 mod plain;
 #[cfg(test)]
 mod tests;

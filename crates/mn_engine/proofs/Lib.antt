@@ -1,4 +1,3 @@
 pub mod Deciding
 pub mod Enclosing
-pub mod Literals
 pub mod Rounding

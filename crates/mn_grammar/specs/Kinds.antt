@@ -6,7 +6,8 @@ use Rattle.mn_grammar.specs.declared.Kind.{Kind}
 use Rattle.mn_grammar.specs.declared.Kind.TheVariants.{Lex, NumberRange, Unsupported, Syntax, Again, Name, EmptyDomain, Limit, Shape}
 use Rattle.mn_grammar.specs.declared.Limit.TheVariants.{Variables, Constraints, Cells, Nesting, Span, Vector}
 
--- where two conditions are broken at one token, the kind of the lesser rank counts
+-- where two conditions are broken at one token, the kind of the lesser rank counts. No token passes two of the limits,
+-- so which of them comes first among these ranks plays no part.
 abbrev pub rank : Kind → ℕ
 rank Lex = 0
 rank NumberRange = 1

@@ -1,5 +1,5 @@
--- Readers of token lists, and the parts that they are made of. No public promise speaks of them: they stand
--- between the definitions of a language and the code that reads it.
+-- Readers of token lists, and the parts that they are made of: they stand between the definitions of a language and the code
+-- that reads it. The contracts of the calls that read single sections cite them; that of a whole text doesn't.
 use Rattle.std.specs.Prelude.{ℕ, ℤ, zero, suc, Bool, not, ◌&&◌, List, [], ◌∷◌, length, Option, Some, None, Result, Ok, Err, if◌then◌else◌, ◌⊎◌, find}
 use Rattle.std.proofs.Common.{inl, inr}
 use Rattle.mn_lexer.specs.Terminals.{Terminal}

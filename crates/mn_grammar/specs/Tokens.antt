@@ -79,7 +79,8 @@ same_token (head a) (head b) = bytes_eq a b
 same_token (mark a) (mark b) = mark_number a == mark_number b
 same_token _ _ = false
 
--- a name, by its bytes
+-- a name, by its bytes. The empty word counts here, and so do bytes that no word has; no lexer gives such a token, and a
+-- list of tokens that is passed to a reader comes from one.
 pub record Name : Type 0 where
   pub bytes : List ℕ
   pub lawful : is_name bytes ≡ true

@@ -1,4 +1,5 @@
--- The readers of constraints and of their section. No public promise speaks of them.
+-- The readers of constraints and of their section: what `constraints` answers, token by token. That they read exactly the language
+-- of `Constraints.antt` is a law of its own.
 use Rattle.std.specs.Prelude.{ℕ, ℤ, zero, suc, ◌⊎◌, List, [], ◌∷◌, ◌++◌, true, false, Option, Some, None}
 use Rattle.std.proofs.Common.{inl, inr}
 use Rattle.mn_lexer.specs.Terminals.{Terminal}

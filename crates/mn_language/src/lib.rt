@@ -5,8 +5,8 @@
 //! and why every other one is refused. Laws say that no text stands for two instances, and that each text has a verdict,
 //! and one only.
 //!
-//! The crate stands on `mn_decls` and `mn_asking`, whose definitions it puts together, on the theory of readers in
-//! `mn_grammar`, on `mn_lexer` and on `mn_model`.
+//! The crate stands on `mn_decls`, `mn_asking` and `mn_references`, whose definitions it puts together, on the theory of
+//! readers in `mn_grammar`, and on `mn_cursor`, `mn_lexer` and `mn_model`.
 #![tactic(auto)]
 
 mod constraint_section;

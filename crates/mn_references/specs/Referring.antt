@@ -1,4 +1,5 @@
--- The readers of references, terms, entries, vectors and rows. No public promise speaks of them.
+-- The readers of references, terms, entries, vectors and rows: what the public calls of this crate answer, token by token. That
+-- they read exactly the language of `References.antt` and `Entries.antt` is a law of its own.
 use Rattle.std.specs.Prelude.{ℕ, ℤ, ◌⊎◌, true, List, [], Option, Some, None, if◌then◌else◌, codes}
 use Rattle.std.specs.Str.{bytes_eq}
 use Rattle.std.proofs.Common.{inl, inr}

@@ -1,4 +1,4 @@
-//! The texts as the outputs' description shows them.
+//! The printed texts, byte for byte.
 ghost use Rattle.std.specs.Prelude.{IfOk};
 
 use super::*;
@@ -92,15 +92,22 @@ fn a_number_stands_in_its_line(rt: HostRuntime) -> Result<(), Fail> {
         usage_line(rt.alloc(), "second model", 1)?.as_slice(),
         b"Usage: second model, word 1\n".as_slice()
     );
-    assert_eq!(rt;
-        number_line(
-            rt.alloc(),
+    let rows = [
+        (
             "Fault: model too large, ",
             24_903_700,
-            " triggers"
-        )?
-        .as_slice(),
-        b"Fault: model too large, 24903700 triggers\n".as_slice()
-    );
+            " triggers",
+            b"Fault: model too large, 24903700 triggers\n".as_slice(),
+        ),
+        (
+            "Fault: dump too long, ",
+            67_108_865,
+            " bytes",
+            b"Fault: dump too long, 67108865 bytes\n",
+        ),
+    ];
+    for (before, n, after, text) in rows {
+        assert_eq!(rt; number_line(rt.alloc(), before, n, after)?.as_slice(), text);
+    }
     Ok(())
 }
