@@ -1,4 +1,9 @@
+pub mod Counts
 pub mod Declared
+pub mod Marks
 pub mod Members
+pub mod Parting
 pub mod Quiet
 pub mod Totals
+pub mod Windows
+pub mod Words

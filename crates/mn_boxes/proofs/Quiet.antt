@@ -30,7 +30,7 @@ quiet_boxes (var ∷ vars) (xs ∷ old) (ys ∷ new) is_old is_new quiet =
     cc
 
 -- a value that may be missing
-decide_option : (a b : Option ℤ) → Decided (a ≡ b)
+pub decide_option : (a b : Option ℤ) → Decided (a ≡ b)
 decide_option None None = inl refl
 decide_option None (Some b) = inr (λ e. cc)
 decide_option (Some a) None = inr (λ e. cc)
@@ -41,11 +41,11 @@ decide_option (Some a) (Some b) = by (decide_int a b)
     by (inr differs) = inr (λ e. differs (cc))
 
 -- the ends of a set
-some_least : (xs : List ℤ) → (xs ≡ [] → ⊥) → (a : ℤ) × IsFirst a xs
+pub some_least : (xs : List ℤ) → (xs ≡ [] → ⊥) → (a : ℤ) × IsFirst a xs
 some_least [] filled = absurd (filled refl)
 some_least (x ∷ xs) filled = (x, refl)
 
-some_greatest : (xs : List ℤ) → (xs ≡ [] → ⊥) → (a : ℤ) × IsLast a xs
+pub some_greatest : (xs : List ℤ) → (xs ≡ [] → ⊥) → (a : ℤ) × IsLast a xs
 some_greatest [] filled = absurd (filled refl)
 some_greatest (x ∷ []) filled = (x, refl)
 some_greatest (x ∷ y ∷ xs) filled = let rest = some_greatest (y ∷ xs) (λ e. cc) in (rest.0, step rest.0 rest.1)

@@ -1,5 +1,5 @@
 -- What the definitions of boxes and events come to.
-use Rattle.std.specs.Prelude.{◌≡◌, ℕ, ◌≤◌, ℤ, true, false, List}
+use Rattle.std.specs.Prelude.{◌≡◌, ℕ, ◌≤◌, ◌⊎◌, ℤ, true, false, List}
 use Rattle.std.specs.List.{AllByRecursion}
 use Rattle.mn_model.specs.Lawful.{IsLawfulDecl}
 use Rattle.mn_model.specs.Problem.{domains_of}
@@ -30,6 +30,15 @@ BoxesAreInsideTheDeclared = (decls : List Decl) (box : List (List ℤ)) → IsBo
 -- an event is fired only where the set changed
 abbrev pub EventsAreChanges : Type 0
 EventsAreChanges = (vars : List Variable) (v : ℕ) (e : Event) (old new : List (List ℤ)) → Fires vars v e old new → Fires vars v Any old new
+
+-- what two changes together fire one of them fires
+abbrev pub OneOfTwoFires : Type 0
+OneOfTwoFires = (vars : List Variable) (v : ℕ) (e : Event) (old between new : List (List ℤ)) → Fires vars v e old new → Fires vars v e old between ⊎ Fires vars v e between new
+
+-- and where values only go, what one of them fires both together fire
+abbrev pub BothFire : Type 0
+BothFire = (vars : List Variable) (v : ℕ) (e : Event) (old between new : List (List ℤ)) → IsBox vars old → IsBox vars between → IsBox vars new → Inside between old → Inside new between
+    → Fires vars v e old between ⊎ Fires vars v e between new → Fires vars v e old new
 
 -- where no set changed the boxes are the same
 abbrev pub QuietBoxesAreTheSame : Type 0

@@ -1,5 +1,5 @@
 //! Laws of the definitions. The functions do nothing.
-ghost use Rattle.mn_boxes.specs.Laws.{InsideIsTransitive, InsideHasNoMore, AsManyAreTheSame, DeclaredSetsAreABox, BoxesAreInsideTheDeclared, EventsAreChanges, QuietBoxesAreTheSame, QuietEndsTell, QuietValuesTell};
+ghost use Rattle.mn_boxes.specs.Laws.{InsideIsTransitive, InsideHasNoMore, AsManyAreTheSame, DeclaredSetsAreABox, BoxesAreInsideTheDeclared, EventsAreChanges, OneOfTwoFires, BothFire, QuietBoxesAreTheSame, QuietEndsTell, QuietValuesTell};
 
 /// A box inside a box inside a third one is inside it.
 pub fn inside_passes_on()
@@ -21,6 +21,12 @@ pub fn declared_sets_are_a_box()
 /// An event of a variable is fired only where its set changed.
 pub fn events_are_changes()
     ensures { EventsAreChanges }
+{}
+
+/// What two changes together fire one of them fires. Where values only go, what one of them fires both together fire.
+pub fn two_changes_fire_as_one()
+    ensures one { OneOfTwoFires }
+    ensures both { BothFire }
 {}
 
 /// Where no event is fired, nothing changed. Of a variable that loses values at its ends alone the two ends tell this, of

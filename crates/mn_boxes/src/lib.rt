@@ -8,13 +8,16 @@
 //! The crate stands on `mn_model`, whose declarations say which values and which kind a variable has.
 #![tactic(auto)]
 
+pub mod bits;
 mod change;
 mod kind;
 mod laws;
+mod value_set;
 
 pub use change::Moved;
 pub use kind::is_bounded;
 pub use laws::{
     as_many_are_the_same, declared_sets_are_a_box, events_are_changes, inside_passes_on,
-    quiet_events_tell,
+    quiet_events_tell, two_changes_fire_as_one,
 };
+pub use value_set::ValueSet;

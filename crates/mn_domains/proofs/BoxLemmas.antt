@@ -8,7 +8,7 @@ use Rattle.mn_model.proofs.Ordered.{has_take, above_all}
 use Rattle.mn_boxes.specs.Boxes.{IsBox}
 use Rattle.mn_boxes.specs.Sets.{IsSetOf, IsUnbroken}
 use Rattle.mn_boxes.proofs.Members.{stands_first}
-use Rattle.mn_domains.specs.Held.{IsHeld, IsKept, IsShape, IsState, sets_held, sets_of_state, values_held, variable_held}
+use Rattle.mn_domains.specs.Held.{IsHeld, IsKept, IsShape, IsState, sets_held, state_held, values_held, variable_held}
 use Rattle.mn_domains.specs.Sets.{AreBoxes, Sets}
 use Rattle.mn_domains.specs.declared.shape.Ends.{Ends}
 use Rattle.mn_domains.specs.declared.shape.Shape.{Shape}
@@ -79,7 +79,7 @@ box_held listed bits room (shape ∷ shapes) [] is held = absurd held
 box_held listed bits room (shape ∷ shapes) (e ∷ ends) is held = (set_held listed bits room shape e is.0 held.0, box_held listed bits room shapes ends is.1 held.1)
 
 boxes_before : (listed : List ℤ) (shapes : List Shape) (room length_now : ℕ) (saved : List State) → AllByRecursion (IsShape listed room) shapes
-    → AllByRecursion (λ s. IsState listed shapes s.ends.items s.bits.items s.left × (length s.bits.items ≡ length_now)) saved → AllByRecursion (IsBox (map (variable_held listed) shapes)) (map (sets_of_state listed shapes) saved)
+    → AllByRecursion (λ s. IsState listed shapes s.ends.items s.bits.items s.left × (length s.bits.items ≡ length_now)) saved → AllByRecursion (λ st. IsBox (map (variable_held listed) shapes) st.sets) (map (state_held listed shapes) saved)
 boxes_before listed shapes room n [] is all = tt
 boxes_before listed shapes room n (s ∷ saved) is all = (box_held listed s.bits.items room shapes s.ends.items is all.0.0.held, boxes_before listed shapes room n saved is all.1)
 

@@ -19,32 +19,32 @@ use Rattle.mn_domains.proofs.Filtered.{eq_so, filter_none, is_not_false}
 use Rattle.mn_domains.proofs.ShapeLemmas.{Ascends-held}
 use Rattle.mn_domains.proofs.Standing.{ends_at, seen}
 
-pub set_ascends : (listed : List ℤ) (shapes : List Shape) (now : State) (saved : List State) (s : Sets) (v : ℕ) → seen listed shapes now saved ≡ s → IsKept listed shapes now saved → Ascends (set_of s.sets v)
-set_ascends listed shapes now saved s v is kept = ascends_at s.vars s.sets v (are_boxes listed shapes now saved s is kept).now
+pub set_ascends : (listed : List ℤ) (shapes : List Shape) (now : State) (saved : List State) (s : Sets) (v : ℕ) → seen listed shapes now saved ≡ s → IsKept listed shapes now saved → Ascends (set_of s.now.sets v)
+set_ascends listed shapes now saved s v is kept = ascends_at s.vars s.now.sets v (are_boxes listed shapes now saved s is kept).now
 
 -- nothing is at least what is greater than the greatest value
-pub emptied_from : (listed : List ℤ) (shapes : List Shape) (now : State) (saved : List State) (s : Sets) (v : ℕ) (e : Ends) (a : ℤ) → seen listed shapes now saved ≡ s → IsKept listed shapes now saved → v < length s.sets → e ≡ get_or now.ends.items v e
-    → e.hi <ℤ a → filter (λ x. int_le a x) (set_of s.sets v) ≡ []
+pub emptied_from : (listed : List ℤ) (shapes : List Shape) (now : State) (saved : List State) (s : Sets) (v : ℕ) (e : Ends) (a : ℤ) → seen listed shapes now saved ≡ s → IsKept listed shapes now saved → v < length s.vars → e ≡ get_or now.ends.items v e
+    → e.hi <ℤ a → filter (λ x. int_le a x) (set_of s.now.sets v) ≡ []
 emptied_from listed shapes now saved s v e a is kept within at above =
-    let l = stands_last (set_of s.sets v) e.hi (set_ascends listed shapes now saved s v is kept) (ends_at listed shapes now saved s v e is kept within at).last in
-    filter_none (λ x. int_le a x) (set_of s.sets v) (λ b has. let le = l.others b has in le_false a b (omega (arith, ints, le, above)))
+    let l = stands_last (set_of s.now.sets v) e.hi (set_ascends listed shapes now saved s v is kept) (ends_at listed shapes now saved s v e is kept within at).last in
+    filter_none (λ x. int_le a x) (set_of s.now.sets v) (λ b has. let le = l.others b has in le_false a b (omega (arith, ints, le, above)))
 
 -- nothing is at most what is less than the least value
-pub emptied_to : (listed : List ℤ) (shapes : List Shape) (now : State) (saved : List State) (s : Sets) (v : ℕ) (e : Ends) (a : ℤ) → seen listed shapes now saved ≡ s → IsKept listed shapes now saved → v < length s.sets → e ≡ get_or now.ends.items v e
-    → a <ℤ e.lo → filter (λ x. int_le x a) (set_of s.sets v) ≡ []
+pub emptied_to : (listed : List ℤ) (shapes : List Shape) (now : State) (saved : List State) (s : Sets) (v : ℕ) (e : Ends) (a : ℤ) → seen listed shapes now saved ≡ s → IsKept listed shapes now saved → v < length s.vars → e ≡ get_or now.ends.items v e
+    → a <ℤ e.lo → filter (λ x. int_le x a) (set_of s.now.sets v) ≡ []
 emptied_to listed shapes now saved s v e a is kept within at below =
-    let f = stands_first (set_of s.sets v) e.lo (set_ascends listed shapes now saved s v is kept) (ends_at listed shapes now saved s v e is kept within at).first in
-    filter_none (λ x. int_le x a) (set_of s.sets v) (λ b has. let le = f.others b has in le_false b a (omega (arith, ints, le, below)))
+    let f = stands_first (set_of s.now.sets v) e.lo (set_ascends listed shapes now saved s v is kept) (ends_at listed shapes now saved s v e is kept within at).first in
+    filter_none (λ x. int_le x a) (set_of s.now.sets v) (λ b has. let le = f.others b has in le_false b a (omega (arith, ints, le, below)))
 
 -- nothing but the only value is there
-pub emptied_only : (listed : List ℤ) (shapes : List Shape) (now : State) (saved : List State) (s : Sets) (v : ℕ) (e : Ends) (a : ℤ) → seen listed shapes now saved ≡ s → IsKept listed shapes now saved → v < length s.sets → e ≡ get_or now.ends.items v e
-    → e.lo ≡ a → e.hi ≡ a → filter (is_not a) (set_of s.sets v) ≡ []
+pub emptied_only : (listed : List ℤ) (shapes : List Shape) (now : State) (saved : List State) (s : Sets) (v : ℕ) (e : Ends) (a : ℤ) → seen listed shapes now saved ≡ s → IsKept listed shapes now saved → v < length s.vars → e ≡ get_or now.ends.items v e
+    → e.lo ≡ a → e.hi ≡ a → filter (is_not a) (set_of s.now.sets v) ≡ []
 emptied_only listed shapes now saved s v e a is kept within at low high =
     let up = set_ascends listed shapes now saved s v is kept in
     let ends = ends_at listed shapes now saved s v e is kept within at in
-    let f = stands_first (set_of s.sets v) e.lo up ends.first in
-    let l = stands_last (set_of s.sets v) e.hi up ends.last in
-    filter_none (is_not a) (set_of s.sets v) (λ b has. let from = f.others b has in let to = l.others b has in is_not_false a b (omega (arith, ints, from, to, low, high)))
+    let f = stands_first (set_of s.now.sets v) e.lo up ends.first in
+    let l = stands_last (set_of s.now.sets v) e.hi up ends.last in
+    filter_none (is_not a) (set_of s.now.sets v) (λ b has. let from = f.others b has in let to = l.others b has in is_not_false a b (omega (arith, ints, from, to, low, high)))
 
 -- nothing is what isn't there
 pub none_equal : (xs : List ℤ) (a : ℤ) → (Has xs a → ⊥) → filter (λ x. int_eq x a) xs ≡ []

@@ -1,4 +1,5 @@
 pub mod BoxLemmas
+pub mod Cuts
 pub mod Emptying
 pub mod EndLemmas
 pub mod Filtered
@@ -8,7 +9,8 @@ pub mod Laying
 pub mod Marks
 pub mod Parts
 pub mod Put
+pub mod RowChange
 pub mod ShapeLemmas
+pub mod Sieve
 pub mod Standing
 pub mod Unmarking
-pub mod Words

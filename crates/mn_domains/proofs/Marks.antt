@@ -103,65 +103,6 @@ marked_ends bits lo at e ordered low high size = record {
   size = size;
 }
 
--- what is left without one value
-pub record TakenOut (bits : List ℕ) (lo : ℤ) (at : ℕ) (e result : Ends) (x : ℤ) : Type 0 where
-  pub ends : AreEndsOf (marked bits lo at result) result
-  pub values : marked bits lo at result ≡ filter (is_not x) (marked bits lo at e)
-
-pub taken_out : (bits : List ℕ) (lo : ℤ) (at : ℕ) (e r : Ends) (x : ℤ) → AreEndsOf (marked bits lo at e) e → Has (marked bits lo at e) x
-    → e.lo ≤ℤ r.lo → r.lo ≤ℤ r.hi → r.hi ≤ℤ e.hi → has_bit bits lo at r.lo ≡ true → has_bit bits lo at r.hi ≡ true → r.size ≡ e.size - 1
-    → ((a : ℤ) → r.lo ≤ℤ a → a ≤ℤ r.hi → a ≡ x → ⊥) → ((a : ℤ) → IsMarked bits lo at e a → (a ≡ x → ⊥) → IsBetween r.lo r.hi a) → TakenOut bits lo at e r x
-taken_out bits lo at e r x ends has low ordered high mark_low mark_high size outside between =
-    let values : marked bits lo at r ≡ filter (is_not x) (marked bits lo at e) = is_filter (is_not x) (marked bits lo at e) (marked bits lo at r) (Ascends-marked bits lo at e) (Ascends-marked bits lo at r) to from in
-    record { ends = marked_ends bits lo at r ordered mark_low mark_high (size ∙ (omega (arith, ends.size, length-without (marked bits lo at e) x (Ascends-marked bits lo at e) has, ap length values))); values = values }
-  where
-    to : (a : ℤ) → Has (marked bits lo at r) a → Passes (is_not x) (marked bits lo at e) a
-    to a there =
-        let m = is_marked bits lo at r a ordered there in
-        record { has = marked_has bits lo at e a ends.ordered (record { low = omega (arith, ints, m.low, low); high = omega (arith, ints, m.high, high); mark = m.mark }); passes = is_not_true x a (outside a m.low m.high) }
-
-    from : (a : ℤ) → Has (marked bits lo at e) a → is_not x a ≡ true → Has (marked bits lo at r) a
-    from a there pass =
-        let m = is_marked bits lo at e a ends.ordered there in
-        let b = between a m (is_not_so x a pass) in
-        marked_has bits lo at r a ordered (record { low = b.low; high = b.high; mark = m.mark })
-
-pub without_first : (bits : List ℕ) (lo : ℤ) (at : ℕ) (e : Ends) (n : ℤ) → AreEndsOf (marked bits lo at e) e → FoundFirst bits lo at (e.lo +ℤ pos 1) e.hi n
-    → TakenOut bits lo at e (record { lo = n; hi = e.hi; size = e.size - 1; place = e.place }) e.lo
-without_first bits lo at e n ends found =
-    let r : Ends = record { lo = n; hi = e.hi; size = e.size - 1; place = e.place } in
-    taken_out bits lo at e r e.lo ends (has_lo (marked bits lo at e) e (Ascends-marked bits lo at e) ends)
-    (omega (arith, ints, found.from)) found.within (omega (arith, ints)) found.mark (high_mark bits lo at e ends) refl
-    (λ a above below is. omega (arith, ints, found.from, above, is)) (λ a m differs. record { low = after a m differs; high = m.high })
-  where
-    after : (a : ℤ) → IsMarked bits lo at e a → (a ≡ e.lo → ⊥) → n ≤ℤ a
-    after a m differs = by (int_le n a) refl
-      where
-        by : (t : Bool) → int_le n a ≡ t → n ≤ℤ a
-        by true t = grind (arith, ints)
-        by false t = absurd (true≢false (sym m.mark ∙ found.none a (omega (arith, ints, m.low, differs)) (less t)))
-          where
-            less : int_le n a ≡ false → a <ℤ n
-            less h = grind (arith, ints)
-
-pub without_last : (bits : List ℕ) (lo : ℤ) (at : ℕ) (e : Ends) (n : ℤ) → AreEndsOf (marked bits lo at e) e → FoundLast bits lo at e.lo (e.hi -ℤ pos 1) n
-    → TakenOut bits lo at e (record { lo = e.lo; hi = n; size = e.size - 1; place = e.place }) e.hi
-without_last bits lo at e n ends found =
-    let r : Ends = record { lo = e.lo; hi = n; size = e.size - 1; place = e.place } in
-    taken_out bits lo at e r e.hi ends (has_hi (marked bits lo at e) e (Ascends-marked bits lo at e) ends)
-    (omega (arith, ints)) found.from (omega (arith, ints, found.within)) (low_mark bits lo at e ends) found.mark refl
-    (λ a above below is. omega (arith, ints, found.within, below, is)) (λ a m differs. record { low = m.low; high = before a m differs })
-  where
-    before : (a : ℤ) → IsMarked bits lo at e a → (a ≡ e.hi → ⊥) → a ≤ℤ n
-    before a m differs = by (int_le a n) refl
-      where
-        by : (t : Bool) → int_le a n ≡ t → a ≤ℤ n
-        by true t = grind (arith, ints)
-        by false t = absurd (true≢false (sym m.mark ∙ found.none a (less t) (omega (arith, ints, m.high, differs))))
-          where
-            less : int_le a n ≡ false → n <ℤ a
-            less h = grind (arith, ints)
-
 -- a row up to a lesser greatest value
 pub row_below : (bits : List ℕ) (lo : ℤ) (at : ℕ) (e : Ends) (n : ℤ) (size : ℕ) → IsRow bits lo at e → e.lo ≤ℤ n → n ≤ℤ e.hi → IsRow bits lo at (record { lo = e.lo; hi = n; size = size; place = e.place })
 row_below bits lo at e n size row low high =
@@ -172,25 +113,6 @@ row_below bits lo at e n size row low high =
       low = row.low;
       room = record { within = omega (arith, ints, row.room.within, s, t, high); small = omega (arith, ints, row.room.small, s, t, high) };
     }
-
--- one step of a cut from below: the least value, which fails the test, is taken out
-pub cut_first : (bits : List ℕ) (lo : ℤ) (at : ℕ) (cut next : Ends) (a : ℤ) (xs : List ℤ) → cut.lo <ℤ a → marked bits lo at next ≡ filter (is_not cut.lo) (marked bits lo at cut)
-    → filter (λ x. int_le a x) (marked bits lo at cut) ≡ xs → filter (λ x. int_le a x) (marked bits lo at next) ≡ xs
-cut_first bits lo at cut next a xs less step so_far = ap (filter (λ x. int_le a x)) step ∙ (filter-without (λ x. int_le a x) (marked bits lo at cut) cut.lo (le_false a cut.lo less) ∙ so_far)
-
--- and from above
-pub cut_last : (bits : List ℕ) (lo : ℤ) (at : ℕ) (cut next : Ends) (a : ℤ) (xs : List ℤ) → a <ℤ cut.hi → marked bits lo at next ≡ filter (is_not cut.hi) (marked bits lo at cut)
-    → filter (λ x. int_le x a) (marked bits lo at cut) ≡ xs → filter (λ x. int_le x a) (marked bits lo at next) ≡ xs
-cut_last bits lo at cut next a xs more step so_far = ap (filter (λ x. int_le x a)) step ∙ (filter-without (λ x. int_le x a) (marked bits lo at cut) cut.hi (le_false cut.hi a more) ∙ so_far)
-
--- what begins at a or above is whole
-pub cut_done_low : (bits : List ℕ) (lo : ℤ) (at : ℕ) (cut : Ends) (a : ℤ) (xs : List ℤ) → AreEndsOf (marked bits lo at cut) cut → a ≤ℤ cut.lo → filter (λ x. int_le a x) (marked bits lo at cut) ≡ xs → marked bits lo at cut ≡ xs
-cut_done_low bits lo at cut a xs ends above so_far =
-    sym (filter_whole (λ x. int_le a x) (marked bits lo at cut) (λ b has. le_true a b (omega (arith, ints, above, (is_marked bits lo at cut b ends.ordered has).low)))) ∙ so_far
-
-pub cut_done_high : (bits : List ℕ) (lo : ℤ) (at : ℕ) (cut : Ends) (a : ℤ) (xs : List ℤ) → AreEndsOf (marked bits lo at cut) cut → cut.hi ≤ℤ a → filter (λ x. int_le x a) (marked bits lo at cut) ≡ xs → marked bits lo at cut ≡ xs
-cut_done_high bits lo at cut a xs ends below so_far =
-    sym (filter_whole (λ x. int_le x a) (marked bits lo at cut) (λ b has. le_true b a (omega (arith, ints, below, (is_marked bits lo at cut b ends.ordered has).high)))) ∙ so_far
 
 -- what is left with one value alone
 pub record TakenAlone (bits : List ℕ) (lo : ℤ) (at : ℕ) (e result : Ends) (x : ℤ) : Type 0 where

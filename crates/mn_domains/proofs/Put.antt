@@ -7,7 +7,7 @@ use Rattle.mn_boxes.specs.Boxes.{count_of, set_of}
 use Rattle.mn_boxes.specs.Events.{IsMoved}
 use Rattle.mn_boxes.specs.declared.change.Moved.{Moved}
 use Rattle.mn_boxes.proofs.Members.{parted}
-use Rattle.mn_domains.specs.Changes.{Changed, kept}
+use Rattle.mn_domains.specs.Changes.{Changed, kept, with_sets}
 use Rattle.mn_domains.specs.Held.{AreEndsOf, IsHeld, IsKept, IsShape, IsState, TellsMoved, sets_held, sets_of_state, values_held, variable_held}
 use Rattle.mn_domains.specs.Sets.{Sets}
 use Rattle.mn_domains.specs.declared.shape.Ends.{Ends}
@@ -74,7 +74,7 @@ state_put listed shapes old new v shape before after state within at set held is
     } in
     subst (λ (es : List Ends). IsState listed shapes es new.bits.items new.left) (sym put.ends) (subst (λ (bs : List ℕ). IsState listed shapes (slice_set old.ends.items v after) bs new.left) (sym put.bits) there)
 
-pub kept_put : (listed : List ℤ) (shapes : List Shape) (old new : State) (saved : List State) (s : Sets) (v : ℕ) (shape : Shape) (before after : Ends) → seen listed shapes old saved ≡ s → IsKept listed shapes old saved → v < length s.sets
+pub kept_put : (listed : List ℤ) (shapes : List Shape) (old new : State) (saved : List State) (s : Sets) (v : ℕ) (shape : Shape) (before after : Ends) → seen listed shapes old saved ≡ s → IsKept listed shapes old saved → v < length s.vars
     → shape ≡ get_or shapes v shape → before ≡ get_or old.ends.items v before → IsHeld listed old.bits.items shape after → PutAt old new v before after → IsKept listed shapes new saved
 kept_put listed shapes old new saved s v shape before after view kept within at_shape at_ends is put =
     let k = known listed shapes old saved s v shape before view kept within at_shape at_ends in
@@ -83,12 +83,12 @@ kept_put listed shapes old new saved s v shape before after view kept within at_
     record {
       shaped = subst (λ n. AllByRecursion (IsShape listed (64 * n)) shapes) (sym rows) kept.shaped;
       apart = kept.apart;
-      current = state_put listed shapes old new v shape before after kept.current st.in_shapes at_shape (ap (λ t. set_of t.sets v) view ∙ k.set) k.held is put;
+      current = state_put listed shapes old new v shape before after kept.current st.in_shapes at_shape (ap (λ t. set_of t.now.sets v) view ∙ k.set) k.held is put;
       before = subst (λ n. AllByRecursion (λ t. IsState listed shapes t.ends.items t.bits.items t.left × (length t.bits.items ≡ n)) saved) (sym rows) kept.before;
     }
 
 -- the change as contracts see it
-pub changed_put : (listed : List ℤ) (shapes : List Shape) (old new : State) (saved : List State) (s : Sets) (v : ℕ) (shape : Shape) (before after : Ends) (p : ℤ → Bool) (moved : Moved) → seen listed shapes old saved ≡ s → IsKept listed shapes old saved → v < length s.sets
+pub changed_put : (listed : List ℤ) (shapes : List Shape) (old new : State) (saved : List State) (s : Sets) (v : ℕ) (shape : Shape) (before after : Ends) (p : ℤ → Bool) (moved : Moved) → seen listed shapes old saved ≡ s → IsKept listed shapes old saved → v < length s.vars
     → shape ≡ get_or shapes v shape → before ≡ get_or old.ends.items v before → IsHeld listed old.bits.items shape after → values_held listed old.bits.items shape after ≡ filter p (values_held listed old.bits.items shape before)
     → PutAt old new v before after → TellsMoved before after moved → Changed p v s (seen listed shapes new saved) (Ok moved)
 changed_put listed shapes old new saved s v shape before after p moved view kept_old within at_shape at_ends is values put tells =
@@ -101,13 +101,13 @@ changed_put listed shapes old new saved s v shape before after p moved view kept
     ap (λ (es : List Ends). sets_held listed new.bits.items shapes es) put.ends ∙ (ap (λ bs. sets_held listed bs shapes (slice_set old.ends.items v after)) put.bits ∙ (sets_held-set listed old.bits.items shapes old.ends.items v shape after kept_old.current.held st.in_shapes at_shape ∙ ap (slice_set (sets_of_state listed shapes old) v) values)) in
     let there : Changed p v (seen listed shapes old saved) (seen listed shapes new saved) (Ok moved) = (
       λ none. some (set_of (sets_of_state listed shapes old) v) (back k.set) after_ends none,
-      ap (λ box. record { vars = map (variable_held listed) shapes; sets = box; saved = map (sets_of_state listed shapes) saved }) (sets ∙ ap (λ ys. slice_set (sets_of_state listed shapes old) v (filter p ys)) (sym (back k.set))),
+      ap (λ box. with_sets (seen listed shapes old saved) box) (sets ∙ ap (λ ys. slice_set (sets_of_state listed shapes old) v (filter p ys)) (sym (back k.set))),
       subst (λ ys. IsMoved ys (filter p ys) moved) (sym (back k.set)) (moved_sets xs p before after moved up k.held.ends after_ends tells),
     ) in
     subst (λ (t : Sets). Changed p v t (seen listed shapes new saved) (Ok moved)) view there
   where
-    back : set_of s.sets v ≡ values_held listed old.bits.items shape before → set_of (sets_of_state listed shapes old) v ≡ values_held listed old.bits.items shape before
-    back e = ap (λ (t : Sets). set_of t.sets v) view ∙ e
+    back : set_of s.now.sets v ≡ values_held listed old.bits.items shape before → set_of (sets_of_state listed shapes old) v ≡ values_held listed old.bits.items shape before
+    back e = ap (λ (t : Sets). set_of t.now.sets v) view ∙ e
 
     some : (ys : List ℤ) → ys ≡ values_held listed old.bits.items shape before → AreEndsOf (filter p (values_held listed old.bits.items shape before)) after → filter p ys ≡ [] → ⊥
     some ys e ends none =

@@ -1,9 +1,10 @@
 -- What stands of one variable in the state of all.
 use Rattle.std.proofs.Common.{◌≡◌, ℕ, zero, suc, ◌*◌, ◌<◌, ◌≤◌, ℤ, List, [], ◌∷◌, length, map, get_or, refl, sym, subst, ap, ◌∙◌, arith}
+use Rattle.std.proofs.lemmas.List.{length-map}
 use Rattle.std.specs.List.{AllByRecursion, AllZip}
 use Rattle.mn_model.specs.Domain.{IsFirst, IsLast}
 use Rattle.mn_boxes.specs.Boxes.{count_of, set_of, variable_at}
-use Rattle.mn_domains.specs.Held.{AreEndsOf, IsHeld, IsKept, IsShape, sets_held, sets_of_state, values_held, variable_held}
+use Rattle.mn_domains.specs.Held.{AreEndsOf, IsHeld, IsKept, IsShape, sets_held, state_held, values_held, variable_held}
 use Rattle.mn_domains.specs.Sets.{Sets}
 use Rattle.mn_domains.specs.declared.shape.Ends.{Ends}
 use Rattle.mn_domains.specs.declared.shape.Shape.{Shape}
@@ -11,7 +12,7 @@ use Rattle.mn_domains.specs.declared.state.State.{State}
 
 -- what contracts see of what is held
 abbrev pub seen : List ℤ → List Shape → State → List State → Sets
-seen listed shapes now saved = record { vars = map (variable_held listed) shapes; sets = sets_of_state listed shapes now; saved = map (sets_of_state listed shapes) saved }
+seen listed shapes now saved = record { vars = map (variable_held listed) shapes; now = state_held listed shapes now; saved = map (state_held listed shapes) saved; owners = [] }
 
 pub length-sets_held : (listed : List ℤ) (bits : List ℕ) (shapes : List Shape) (ends : List Ends) → AllZip (IsHeld listed bits) shapes ends → length (sets_held listed bits shapes ends) ≡ length shapes
 length-sets_held listed bits [] [] held = refl
@@ -50,21 +51,21 @@ pub record StandsAt (listed : List ℤ) (shapes : List Shape) (now : State) (s :
   pub in_shapes : v < length shapes
   pub in_ends : v < length now.ends.items
 
-pub stands_at : (listed : List ℤ) (shapes : List Shape) (now : State) (saved : List State) (s : Sets) (v : ℕ) → seen listed shapes now saved ≡ s → IsKept listed shapes now saved → v < length s.sets → StandsAt listed shapes now s v
+pub stands_at : (listed : List ℤ) (shapes : List Shape) (now : State) (saved : List State) (s : Sets) (v : ℕ) → seen listed shapes now saved ≡ s → IsKept listed shapes now saved → v < length s.vars → StandsAt listed shapes now s v
 stands_at listed shapes now saved s v is kept within =
     let held = kept.current.held in
-    let count : length s.sets ≡ length shapes = ap (λ t. length t.sets) (sym is) ∙ length-sets_held listed now.bits.items shapes now.ends.items held in
+    let count : length s.vars ≡ length shapes = ap (λ t. length t.vars) (sym is) ∙ length-map shapes (variable_held listed) in
     let ends = length-ends listed now.bits.items shapes now.ends.items held in
     record { in_shapes = omega arith; in_ends = omega arith }
 
 pub record Known (listed : List ℤ) (now : State) (s : Sets) (v : ℕ) (shape : Shape) (e : Ends) : Type 0 where
   pub shaped : IsShape listed (64 * length now.bits.items) shape
   pub held : IsHeld listed now.bits.items shape e
-  pub set : set_of s.sets v ≡ values_held listed now.bits.items shape e
+  pub set : set_of s.now.sets v ≡ values_held listed now.bits.items shape e
   pub var : variable_at s.vars v ≡ variable_held listed shape
   pub counted : e.size ≤ now.left
 
-pub known : (listed : List ℤ) (shapes : List Shape) (now : State) (saved : List State) (s : Sets) (v : ℕ) (shape : Shape) (e : Ends) → seen listed shapes now saved ≡ s → IsKept listed shapes now saved → v < length s.sets
+pub known : (listed : List ℤ) (shapes : List Shape) (now : State) (saved : List State) (s : Sets) (v : ℕ) (shape : Shape) (e : Ends) → seen listed shapes now saved ≡ s → IsKept listed shapes now saved → v < length s.vars
     → shape ≡ get_or shapes v shape → e ≡ get_or now.ends.items v e → Known listed now s v shape e
 known listed shapes now saved s v shape e is kept within at_shape at_ends =
     let at = held_at listed now.bits.items shapes now.ends.items v shape e kept.shaped kept.current.held (stands_at listed shapes now saved s v is kept within).in_shapes at_shape at_ends in
@@ -73,16 +74,16 @@ known listed shapes now saved s v shape e is kept within at_shape at_ends =
     record {
       shaped = at.shaped;
       held = at.held;
-      set = ap (λ t. set_of t.sets v) (sym is) ∙ at.set;
+      set = ap (λ t. set_of t.now.sets v) (sym is) ∙ at.set;
       var = ap (λ t. variable_at t.vars v) (sym is) ∙ at.var;
       counted = omega arith;
     }
 
 -- the ends alone, without the shape
 pub record EndsAt (s : Sets) (v : ℕ) (e : Ends) : Type 0 where
-  pub first : IsFirst e.lo (set_of s.sets v)
-  pub last : IsLast e.hi (set_of s.sets v)
-  pub size : e.size ≡ length (set_of s.sets v)
+  pub first : IsFirst e.lo (set_of s.now.sets v)
+  pub last : IsLast e.hi (set_of s.now.sets v)
+  pub size : e.size ≡ length (set_of s.now.sets v)
 
 ends_in : (listed : List ℤ) (bits : List ℕ) (shapes : List Shape) (ends : List Ends) (v : ℕ) (e : Ends) → AllZip (IsHeld listed bits) shapes ends → v < length shapes → e ≡ get_or ends v e
     → AreEndsOf (set_of (sets_held listed bits shapes ends) v) e
@@ -91,8 +92,8 @@ ends_in listed bits (s ∷ shapes) [] v e held within at = absurd held
 ends_in listed bits (s ∷ shapes) (f ∷ ends) zero e held within at = subst (λ (g : Ends). AreEndsOf (values_held listed bits s f) g) (sym at) held.0.ends
 ends_in listed bits (s ∷ shapes) (f ∷ ends) (suc v) e held within at = ends_in listed bits shapes ends v e held.1 (omega arith) at
 
-pub ends_at : (listed : List ℤ) (shapes : List Shape) (now : State) (saved : List State) (s : Sets) (v : ℕ) (e : Ends) → seen listed shapes now saved ≡ s → IsKept listed shapes now saved → v < length s.sets → e ≡ get_or now.ends.items v e → EndsAt s v e
+pub ends_at : (listed : List ℤ) (shapes : List Shape) (now : State) (saved : List State) (s : Sets) (v : ℕ) (e : Ends) → seen listed shapes now saved ≡ s → IsKept listed shapes now saved → v < length s.vars → e ≡ get_or now.ends.items v e → EndsAt s v e
 ends_at listed shapes now saved s v e is kept within at =
     let ends = ends_in listed now.bits.items shapes now.ends.items v e kept.current.held (stands_at listed shapes now saved s v is kept within).in_shapes at in
-    let there = subst (λ (t : Sets). AreEndsOf (set_of t.sets v) e) is ends in
+    let there = subst (λ (t : Sets). AreEndsOf (set_of t.now.sets v) e) is ends in
     record { first = there.first; last = there.last; size = there.size }

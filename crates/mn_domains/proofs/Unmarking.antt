@@ -1,5 +1,6 @@
 -- A value of one variable is taken out by its bit.
 use Rattle.std.proofs.Common.{◌≡◌, ℕ, zero, suc, ◌+◌, ◌-◌, ◌*◌, ◌/◌, ◌<◌, ◌≤◌, ℤ, ◌<ℤ◌, ◌≤ℤ◌, ◌⊎◌, inl, inr, Bool, true, false, true≢false, IsTrue, List, [], ◌∷◌, ◌++◌, length, map, filter, slice_get, slice_set, get_or, Some, Ok, refl, sym, subst, ap, ◌∙◌, arith}
+use Rattle.std.proofs.lemmas.Bool.{cases_lt}
 use Rattle.std.proofs.lemmas.Int.{ints}
 use Rattle.std.proofs.lemmas.List.{length-set, set-get_or}
 use Rattle.std.specs.Int.{int_gap}
@@ -11,7 +12,7 @@ use Rattle.mn_boxes.specs.Boxes.{count_of, set_of}
 use Rattle.mn_boxes.specs.Events.{IsMoved}
 use Rattle.mn_boxes.specs.Sets.{IsEnd, MayGo, Variable}
 use Rattle.mn_boxes.specs.declared.change.Moved.{Moved}
-use Rattle.mn_domains.specs.Changes.{Changed, is_not}
+use Rattle.mn_domains.specs.Changes.{Changed, is_not, with_sets}
 use Rattle.mn_domains.specs.Held.{AreApartFrom, AreEndsOf, IsHeld, IsKept, IsShape, IsState, TellsBit, bit_of, cleared, has_bit, is_bounded_shape, marked, sets_held, sets_of_state, values_held, variable_held}
 use Rattle.mn_domains.specs.Sets.{Sets}
 use Rattle.mn_domains.specs.States.{Unmarks, UnmarksIf, one_less}
@@ -21,99 +22,11 @@ use Rattle.mn_domains.specs.declared.shape.Shape.TheVariants.{Stretch, Listed, B
 use Rattle.mn_domains.specs.declared.state.State.{State}
 use Rattle.mn_domains.proofs.Filtered.{filter_alike, is_filter, is_not_so, is_not_true, length-without}
 use Rattle.mn_domains.proofs.Marks.{Ascends-marked, high_mark, is_marked, low_mark, marked_ends, marked_has}
+use Rattle.mn_domains.proofs.RowChange.{DifferWithin, NewRow, PutRow, row_changed}
 use Rattle.mn_domains.proofs.Put.{PutAt, changed_put, count_of-set, kept_put, moved_sets}
 use Rattle.mn_domains.proofs.ShapeLemmas.{without_none}
 use Rattle.mn_domains.proofs.Standing.{known, seen, length-sets_held, stands_at}
-use Rattle.mn_domains.proofs.Words.{bit_of-cleared, bit_of-cleared_other}
-
--- bit i isn't one of the shape's
-abbrev pub Outside : ℕ → Shape → Type 0
-Outside i (Stretch lo hi) = Unit {0}
-Outside i (Listed from to) = Unit {0}
-Outside i (Bits lo hi at) = (i < at) ⊎ (at + int_gap lo hi < i)
-
--- the bits differ at i alone
-abbrev pub DifferAt : ℕ → List ℕ → List ℕ → Type 0
-DifferAt i bits new = (k : ℕ) → (k ≡ i → ⊥) → bit_of new k ≡ bit_of bits k
-
-values_same : (listed : List ℤ) (bits new : List ℕ) (i room : ℕ) (shape : Shape) (e : Ends) → DifferAt i bits new → Outside i shape → IsShape listed room shape → IsHeld listed bits shape e → values_held listed new shape e ≡ values_held listed bits shape e
-values_same listed bits new i room (Stretch lo hi) e differ out is held = refl
-values_same listed bits new i room (Listed from to) e differ out is held = refl
-values_same listed bits new i room (Bits lo hi at) e differ out is held = filter_alike (has_bit new lo at) (has_bit bits lo at) (stretch e.lo e.hi) (λ a has. differ (at + int_gap lo a) (other a has out))
-  where
-    other : (a : ℤ) → Has (stretch e.lo e.hi) a → (i < at) ⊎ (at + int_gap lo hi < i) → at + int_gap lo a ≡ i → ⊥
-    other a has (inl before) same = omega arith
-    other a has (inr behind) same =
-        let b = (Has-stretch e.lo e.hi a held.ends.ordered).0 has in
-        let s = plus-int_gap lo a (omega (arith, ints, b.0, held.within.0)) in
-        let t = plus-int_gap lo hi is.0.ordered in
-        omega (arith, ints, s, t, b.1, held.within.1, behind, same)
-
-held_same : (listed : List ℤ) (bits new : List ℕ) (i room : ℕ) (shape : Shape) (e : Ends) → DifferAt i bits new → Outside i shape → IsShape listed room shape → IsHeld listed bits shape e → IsHeld listed new shape e
-held_same listed bits new i room shape e differ out is held = record { ends = subst (λ xs. AreEndsOf xs e) (sym (values_same listed bits new i room shape e differ out is held)) held.ends; within = held.within }
-
--- what is behind a variable's bits, and how it stands to later ones
-record Behind (n : ℕ) (s : Shape) (shapes : List Shape) : Type 0 where
-  from : ℕ
-  apart : AreApartFrom from shapes
-  later : (at i : ℕ) → from ≤ at → at ≤ i → Outside i s
-  front : (i : ℕ) → i < n → Outside i s
-  more : n ≤ from
-
-behind : (n : ℕ) (s : Shape) (shapes : List Shape) → AreApartFrom n (s ∷ shapes) → Behind n s shapes
-behind n (Stretch lo hi) shapes apart = record { from = n; apart = apart; later = λ at i le order. tt; front = λ i less. tt; more = omega arith }
-behind n (Listed from to) shapes apart = record { from = n; apart = apart; later = λ at i le order. tt; front = λ i less. tt; more = omega arith }
-behind n (Bits lo hi at) shapes apart = record { from = at + int_gap lo hi + 1; apart = apart.1; later = λ b i le order. inr (omega arith); front = λ i less. inl (omega (arith, apart.0)); more = omega (arith, apart.0) }
-
--- the sets of the variables whose bits are all behind bit i
-record AllSame (listed : List ℤ) (bits new : List ℕ) (shapes : List Shape) (ends : List Ends) : Type 0 where
-  sets : sets_held listed new shapes ends ≡ sets_held listed bits shapes ends
-  held : AllZip (IsHeld listed new) shapes ends
-
-all_same : (listed : List ℤ) (bits new : List ℕ) (i room n : ℕ) (shapes : List Shape) (ends : List Ends) → DifferAt i bits new → AreApartFrom n shapes → i < n → AllByRecursion (IsShape listed room) shapes → AllZip (IsHeld listed bits) shapes ends → AllSame listed bits new shapes ends
-all_same listed bits new i room n [] [] differ apart less is held = record { sets = refl; held = tt }
-all_same listed bits new i room n [] (e ∷ ends) differ apart less is held = absurd held
-all_same listed bits new i room n (s ∷ shapes) [] differ apart less is held = absurd held
-all_same listed bits new i room n (s ∷ shapes) (e ∷ ends) differ apart less is held =
-    let b = behind n s shapes apart in
-    let more = b.more in
-    let rest = all_same listed bits new i room b.from shapes ends differ b.apart (omega arith) is.1 held.1 in
-    let out = b.front i less in
-    let here : values_held listed new s e ≡ values_held listed bits s e = values_same listed bits new i room s e differ out is.0 held.0 in
-    let there = rest.sets in
-    record { sets = cc; held = (held_same listed bits new i room s e differ out is.0 held.0, rest.held) }
-
--- a marked set's bits begin behind those before it
-begins_behind : (n : ℕ) (shapes : List Shape) (v : ℕ) (lo hi : ℤ) (at : ℕ) → AreApartFrom n shapes → v < length shapes → Bits lo hi at ≡ get_or shapes v (Bits lo hi at) → n ≤ at
-begins_behind n [] v lo hi at apart within is = absurd (omega arith)
-begins_behind n (s ∷ shapes) zero lo hi at apart within is = (subst (λ (t : Shape). AreApartFrom n (t ∷ shapes)) (sym is) apart).0
-begins_behind n (s ∷ shapes) (suc v) lo hi at apart within is = let b = behind n s shapes apart in let more = b.more in let le = begins_behind b.from shapes v lo hi at b.apart (omega arith) is in omega arith
-
--- the sets after bit i, one of variable v, was changed
-record ChangedAt (listed : List ℤ) (bits new : List ℕ) (shapes : List Shape) (ends : List Ends) (v : ℕ) (shape : Shape) (e : Ends) : Type 0 where
-  sets : sets_held listed new shapes (slice_set ends v e) ≡ slice_set (sets_held listed bits shapes ends) v (values_held listed new shape e)
-  held : AllZip (IsHeld listed new) shapes (slice_set ends v e)
-
-changed_at : (listed : List ℤ) (bits new : List ℕ) (i room n : ℕ) (shapes : List Shape) (ends : List Ends) (v : ℕ) (lo hi : ℤ) (at : ℕ) (e : Ends) → DifferAt i bits new → AreApartFrom n shapes → AllByRecursion (IsShape listed room) shapes → AllZip (IsHeld listed bits) shapes ends
-    → v < length shapes → Bits lo hi at ≡ get_or shapes v (Bits lo hi at) → at ≤ i → i ≤ at + int_gap lo hi → IsHeld listed new (Bits lo hi at) e → ChangedAt listed bits new shapes ends v (Bits lo hi at) e
-changed_at listed bits new i room n [] ends v lo hi at e differ apart is held within here low high new_held = absurd (omega arith)
-changed_at listed bits new i room n (s ∷ shapes) [] v lo hi at e differ apart is held within here low high new_held = absurd held
-changed_at listed bits new i room n (s ∷ shapes) (f ∷ ends) zero lo hi at e differ apart is held within here low high new_held =
-    let apart_here = subst (λ (t : Shape). AreApartFrom n (t ∷ shapes)) (sym here) apart in
-    let rest = all_same listed bits new i room (at + int_gap lo hi + 1) shapes ends differ apart_here.1 (omega arith) is.1 held.1 in
-    let there = rest.sets in
-    record {
-      sets = ap (λ (t : Shape). values_held listed new t e ∷ sets_held listed new shapes ends) (sym here) ∙ ap (λ box. values_held listed new (Bits lo hi at) e ∷ box) there;
-      held = (subst (λ (t : Shape). IsHeld listed new t e) here new_held, rest.held);
-    }
-changed_at listed bits new i room n (s ∷ shapes) (f ∷ ends) (suc v) lo hi at e differ apart is held within here low high new_held =
-    let b = behind n s shapes apart in
-    let le = begins_behind b.from shapes v lo hi at b.apart (omega arith) here in
-    let out = b.later at i le low in
-    let rest = changed_at listed bits new i room b.from shapes ends v lo hi at e differ b.apart is.1 held.1 (omega arith) here low high new_held in
-    let first : values_held listed new s f ≡ values_held listed bits s f = values_same listed bits new i room s f differ out is.0 held.0 in
-    let there = rest.sets in
-    record { sets = cc; held = (held_same listed bits new i room s f differ out is.0 held.0, rest.held) }
+use Rattle.mn_boxes.proofs.Words.{bit_of-cleared, bit_of-cleared_other}
 
 -- ---- the set itself
 
@@ -125,7 +38,16 @@ record InnerOut (bits new : List ℕ) (lo : ℤ) (at : ℕ) (e : Ends) (a : ℤ)
 other_bit : (lo : ℤ) (at : ℕ) (a b : ℤ) → lo ≤ℤ a → lo ≤ℤ b → (b ≡ a → ⊥) → at + int_gap lo b ≡ at + int_gap lo a → ⊥
 other_bit lo at a b low_a low_b differs same = let s = plus-int_gap lo a low_a in let t = plus-int_gap lo b low_b in differs (omega (arith, ints, s, t, same))
 
-inner_out : (bits new : List ℕ) (lo : ℤ) (at : ℕ) (e : Ends) (a : ℤ) → lo ≤ℤ e.lo → AreEndsOf (marked bits lo at e) e → e.lo <ℤ a → a <ℤ e.hi → has_bit bits lo at a ≡ true → has_bit new lo at a ≡ false → DifferAt (at + int_gap lo a) bits new → InnerOut bits new lo at e a
+-- two numbers that differ
+apart : (k i : ℕ) → (k ≡ i → ⊥) → (k < i) ⊎ (i < k)
+apart k i differs = by (cases_lt k i) (cases_lt i k)
+  where
+    by : (k < i) ⊎ (i ≤ k) → (i < k) ⊎ (k ≤ i) → (k < i) ⊎ (i < k)
+    by (inl less) other = inl less
+    by (inr le) (inl more) = inr more
+    by (inr le) (inr ge) = absurd (differs (omega (arith, le, ge)))
+
+inner_out : (bits new : List ℕ) (lo : ℤ) (at : ℕ) (e : Ends) (a : ℤ) → lo ≤ℤ e.lo → AreEndsOf (marked bits lo at e) e → e.lo <ℤ a → a <ℤ e.hi → has_bit bits lo at a ≡ true → has_bit new lo at a ≡ false → DifferWithin (at + int_gap lo a) (at + int_gap lo a) bits new → InnerOut bits new lo at e a
 inner_out bits new lo at e a low ends above below set gone differ =
     let there : Has (marked bits lo at e) a = marked_has bits lo at e a ends.ordered (record { low = omega (arith, ints, above); high = omega (arith, ints, below); mark = set }) in
     let values : marked new lo at (one_less e) ≡ filter (is_not a) (marked bits lo at e) = is_filter (is_not a) (marked bits lo at e) (marked new lo at (one_less e)) (Ascends-marked bits lo at e) (Ascends-marked new lo at (one_less e)) to from in
@@ -137,7 +59,7 @@ inner_out bits new lo at e a low ends above below set gone differ =
     }
   where
     same_bit : (b : ℤ) → lo ≤ℤ b → (b ≡ a → ⊥) → has_bit new lo at b ≡ has_bit bits lo at b
-    same_bit b from differs = differ (at + int_gap lo b) (other_bit lo at a b (omega (arith, ints, low, above)) from differs)
+    same_bit b from differs = differ (at + int_gap lo b) (apart (at + int_gap lo b) (at + int_gap lo a) (other_bit lo at a b (omega (arith, ints, low, above)) from differs))
 
     to : (b : ℤ) → Has (marked new lo at (one_less e)) b → Passes (is_not a) (marked bits lo at e) b
     to b has =
@@ -157,7 +79,7 @@ pub record Unmarked (listed : List ℤ) (shapes : List Shape) (new : State) (sav
   pub changed : Changed (is_not a) v s (seen listed shapes new saved) (Ok moved)
 
 -- where the bit wasn't set nothing changed
-unmarked_none : (listed : List ℤ) (shapes : List Shape) (old new : State) (saved : List State) (s : Sets) (v : ℕ) (lo hi : ℤ) (at : ℕ) (e : Ends) (a : ℤ) (moved : Moved) → seen listed shapes old saved ≡ s → IsKept listed shapes old saved → v < length s.sets
+unmarked_none : (listed : List ℤ) (shapes : List Shape) (old new : State) (saved : List State) (s : Sets) (v : ℕ) (lo hi : ℤ) (at : ℕ) (e : Ends) (a : ℤ) (moved : Moved) → seen listed shapes old saved ≡ s → IsKept listed shapes old saved → v < length s.vars
     → Bits lo hi at ≡ get_or shapes v (Bits lo hi at) → e ≡ get_or old.ends.items v e → has_bit old.bits.items lo at a ≡ false
     → UnmarksIf false old new v e (at + int_gap lo a) moved → Unmarked listed shapes new saved s v a moved
 unmarked_none listed shapes old new saved s v lo hi at e a moved view kept_old within at_shape at_ends clear u =
@@ -170,8 +92,16 @@ unmarked_none listed shapes old new saved s v lo hi at e a moved view kept_old w
       changed = changed_put listed shapes old new saved s v (Bits lo hi at) e e (is_not a) moved view kept_old within at_shape at_ends k.held values put u.3;
     }
 
+-- a set that is held has a value
+held_size : (listed : List ℤ) (bits : List ℕ) (shape : Shape) (e : Ends) → IsHeld listed bits shape e → 1 ≤ e.size
+held_size listed bits shape e held = by (values_held listed bits shape e) held.ends.size held.ends.first
+  where
+    by : (xs : List ℤ) → e.size ≡ length xs → slice_get xs 0 ≡ Some e.lo → 1 ≤ e.size
+    by [] size first = cc
+    by (x ∷ xs) size first = omega (arith, size)
+
 -- where it was set the value is gone
-unmarked_one : (listed : List ℤ) (shapes : List Shape) (old new : State) (saved : List State) (s : Sets) (v : ℕ) (lo hi : ℤ) (at : ℕ) (e : Ends) (a : ℤ) (moved : Moved) → seen listed shapes old saved ≡ s → IsKept listed shapes old saved → v < length s.sets
+unmarked_one : (listed : List ℤ) (shapes : List Shape) (old new : State) (saved : List State) (s : Sets) (v : ℕ) (lo hi : ℤ) (at : ℕ) (e : Ends) (a : ℤ) (moved : Moved) → seen listed shapes old saved ≡ s → IsKept listed shapes old saved → v < length s.vars
     → Bits lo hi at ≡ get_or shapes v (Bits lo hi at) → e ≡ get_or old.ends.items v e → e.lo <ℤ a → a <ℤ e.hi → has_bit old.bits.items lo at a ≡ true
     → UnmarksIf true old new v e (at + int_gap lo a) moved → Unmarked listed shapes new saved s v a moved
 unmarked_one listed shapes old new saved s v lo hi at e a moved view kept_old within at_shape at_ends above below set u =
@@ -183,48 +113,19 @@ unmarked_one listed shapes old new saved s v lo hi at e a moved view kept_old wi
     let gap_hi = plus-int_gap lo hi k.shaped.0.ordered in
     let last : i ≤ at + int_gap lo hi = omega (arith, ints, gap_a, gap_hi, below, k.held.within.1) in
     let room : i < 64 * length bits = let r = k.shaped.1.within in omega arith in
-    let differ : DifferAt i bits (cleared bits i) = λ n other. bit_of-cleared_other bits i n room other in
+    let differ : DifferWithin i i bits (cleared bits i) = λ n other. bit_of-cleared_other bits i n room (not_at n other) in
     let out = inner_out bits (cleared bits i) lo at e a k.held.within.0 k.held.ends above below set (bit_of-cleared bits i room) differ in
-    let new_held : IsHeld listed (cleared bits i) (Bits lo hi at) (one_less e) = record { ends = out.ends; within = k.held.within } in
-    let ch = changed_at listed bits (cleared bits i) i (64 * length bits) 0 shapes old.ends.items v lo hi at (one_less e) differ kept_old.apart kept_old.shaped kept_old.current.held st.in_shapes at_shape (omega arith) last new_held in
-    let box = sets_held listed bits shapes old.ends.items in
-    let back : set_of box v ≡ marked bits lo at e = ap (λ (t : Sets). set_of t.sets v) view ∙ k.set in
-    let sets : sets_held listed (cleared bits i) shapes (slice_set old.ends.items v (one_less e)) ≡ slice_set box v (filter (is_not a) (marked bits lo at e)) = ch.sets ∙ ap (slice_set box v) out.values in
-    let long : length box ≡ length shapes = length-sets_held listed bits shapes old.ends.items kept_old.current.held in
-    let in_shapes = st.in_shapes in
-    let there : Has (marked bits lo at e) a = marked_has bits lo at e a k.held.ends.ordered (record { low = omega (arith, ints, above); high = omega (arith, ints, below); mark = set }) in
-    let len = length-without (marked bits lo at e) a (Ascends-marked bits lo at e) there in
-    let count = count_of-set box v (filter (is_not a) (marked bits lo at e)) (omega arith) in
-    let was = kept_old.current.counted in
-    let left : new.left ≡ count_of (slice_set box v (filter (is_not a) (marked bits lo at e))) = let one = u.2 in let size = ap length back in omega arith in
-    let state : IsState listed shapes (slice_set old.ends.items v (one_less e)) (cleared bits i) new.left = record { held = ch.held; counted = left ∙ ap count_of (sym sets) } in
-    let rows : length new.bits.items ≡ length bits = ap length u.0 ∙ length-set bits (i / 64) _ in
-    let after_ends : AreEndsOf (filter (is_not a) (marked bits lo at e)) (one_less e) = subst (λ ys. AreEndsOf ys (one_less e)) out.values out.ends in
-    let sets_new : sets_of_state listed shapes new ≡ slice_set box v (filter (is_not a) (marked bits lo at e)) =
-    ap (λ (es : List Ends). sets_held listed new.bits.items shapes es) u.1 ∙ (ap (λ bs. sets_held listed bs shapes (slice_set old.ends.items v (one_less e))) u.0 ∙ sets) in
-    let change : Changed (is_not a) v (seen listed shapes old saved) (seen listed shapes new saved) (Ok moved) = (
-      λ none. some (set_of box v) back after_ends none,
-      ap (λ b. record { vars = map (variable_held listed) shapes; sets = b; saved = map (sets_of_state listed shapes) saved }) (sets_new ∙ ap (λ ys. slice_set box v (filter (is_not a) ys)) (sym back)),
-      subst (λ ys. IsMoved ys (filter (is_not a) ys) moved) (sym back) (moved_sets (marked bits lo at e) (is_not a) e (one_less e) moved (Ascends-marked bits lo at e) k.held.ends after_ends u.3),
-    ) in
-    record {
-      kept = record {
-        shaped = subst (λ n. AllByRecursion (IsShape listed (64 * n)) shapes) (sym rows) kept_old.shaped;
-        apart = kept_old.apart;
-        current = subst (λ (es : List Ends). IsState listed shapes es new.bits.items new.left) (sym u.1) (subst (λ (bs : List ℕ). IsState listed shapes (slice_set old.ends.items v (one_less e)) bs new.left) (sym u.0) state);
-        before = subst (λ n. AllByRecursion (λ t. IsState listed shapes t.ends.items t.bits.items t.left × (length t.bits.items ≡ n)) saved) (sym rows) kept_old.before;
-      };
-      changed = subst (λ (t : Sets). Changed (is_not a) v t (seen listed shapes new saved) (Ok moved)) view change;
-    }
+    let row : NewRow bits (cleared bits i) lo hi at i i e (one_less e) (is_not a) = record { differ = differ; first = omega arith; last = last; words = length-set bits (i / 64) _; ends = out.ends; low = k.held.within.0; high = k.held.within.1; values = out.values } in
+    let some_left = held_size listed bits (Bits lo hi at) e k.held in
+    let put : PutRow old new (cleared bits i) v e (one_less e) moved = record { bits = u.0; ends = u.1; left = (let one = u.2 in omega (arith, one, some_left)); tells = u.3 } in
+    let done = row_changed listed shapes old new saved s v lo hi at i i e (one_less e) (cleared bits i) (is_not a) moved view kept_old within at_shape at_ends row put in
+    record { kept = done.kept; changed = done.changed }
   where
-    some : (ys : List ℤ) → ys ≡ marked old.bits.items lo at e → AreEndsOf (filter (is_not a) (marked old.bits.items lo at e)) (one_less e) → filter (is_not a) ys ≡ [] → ⊥
-    some ys is ends none =
-        let empty : filter (is_not a) (marked old.bits.items lo at e) ≡ [] = ap (filter (is_not a)) (sym is) ∙ none in
-        let first : slice_get (filter (is_not a) (marked old.bits.items lo at e)) 0 ≡ Some e.lo = ends.first in
-        let absent : slice_get [] 0 ≡ Some e.lo = ap (λ zs. slice_get zs 0) (sym empty) ∙ first in
-        cc
+    not_at : (n : ℕ) → (n < at + int_gap lo a) ⊎ (at + int_gap lo a < n) → n ≡ at + int_gap lo a → ⊥
+    not_at n (inl less) same = omega (arith, less, same)
+    not_at n (inr more) same = omega (arith, more, same)
 
-pub unmarked : (listed : List ℤ) (shapes : List Shape) (old new : State) (saved : List State) (s : Sets) (v : ℕ) (lo hi : ℤ) (at : ℕ) (e : Ends) (a : ℤ) (moved : Moved) → seen listed shapes old saved ≡ s → IsKept listed shapes old saved → v < length s.sets
+pub unmarked : (listed : List ℤ) (shapes : List Shape) (old new : State) (saved : List State) (s : Sets) (v : ℕ) (lo hi : ℤ) (at : ℕ) (e : Ends) (a : ℤ) (moved : Moved) → seen listed shapes old saved ≡ s → IsKept listed shapes old saved → v < length s.vars
     → Bits lo hi at ≡ get_or shapes v (Bits lo hi at) → e ≡ get_or old.ends.items v e → e.lo <ℤ a → a <ℤ e.hi → Unmarks old new v e (at + int_gap lo a) moved → Unmarked listed shapes new saved s v a moved
 unmarked listed shapes old new saved s v lo hi at e a moved view kept_old within at_shape at_ends above below u = by (has_bit old.bits.items lo at a) refl u
   where
@@ -233,7 +134,7 @@ unmarked listed shapes old new saved s v lo hi at e a moved view kept_old within
     by false is w = unmarked_none listed shapes old new saved s v lo hi at e a moved view kept_old within at_shape at_ends is w
 
 -- the same of any shape that tells a bit
-pub unmarked_shape : (listed : List ℤ) (shapes : List Shape) (old new : State) (saved : List State) (s : Sets) (v : ℕ) (shape : Shape) (e : Ends) (a : ℤ) (bit : ℕ) (moved : Moved) → seen listed shapes old saved ≡ s → IsKept listed shapes old saved → v < length s.sets
+pub unmarked_shape : (listed : List ℤ) (shapes : List Shape) (old new : State) (saved : List State) (s : Sets) (v : ℕ) (shape : Shape) (e : Ends) (a : ℤ) (bit : ℕ) (moved : Moved) → seen listed shapes old saved ≡ s → IsKept listed shapes old saved → v < length s.vars
     → shape ≡ get_or shapes v shape → e ≡ get_or old.ends.items v e → TellsBit shape e a (Some bit) → Unmarks old new v e bit moved → Unmarked listed shapes new saved s v a moved
 unmarked_shape listed shapes old new saved s v (Stretch lo hi) e a bit moved view kept_old within at_shape at_ends tells u = absurd tells.2
 unmarked_shape listed shapes old new saved s v (Listed from to) e a bit moved view kept_old within at_shape at_ends tells u = absurd tells.2

@@ -1,24 +1,18 @@
 -- How the sets are held.
 use Rattle.std.specs.Prelude.{◌≡◌, ◌≢◌, ◌↔◌, IsTrue, ℕ, ◌+◌, ◌*◌, ◌/◌, ◌%◌, ◌<◌, ◌≤◌, ◌==◌, ℤ, ◌<ℤ◌, ◌≤ℤ◌, Option, Some, None, Bool, true, false, List, [], ◌∷◌, filter, length, slice_index, slice_range, slice_set, bit_and, take, drop, ◌^◌}
-use Rattle.std.specs.Int.{bit_at, bit_not, int_gap, w64}
+use Rattle.std.specs.Int.{int_gap}
 use Rattle.std.specs.List.{AllByRecursion, AllZip}
 use Rattle.mn_model.specs.Domain.{Ascends, IsFirst, IsLast, IsValue, stretch}
 use Rattle.mn_model.specs.declared.limits.TheConstants.{SPAN}
+pub use Rattle.mn_boxes.specs.Bits.{bit_of, cleared}
 use Rattle.mn_boxes.specs.Boxes.{count_of}
 use Rattle.mn_boxes.specs.Sets.{Variable}
 use Rattle.mn_boxes.specs.declared.change.Moved.{Moved}
+use Rattle.mn_domains.specs.Sets.{State as Seen}
 use Rattle.mn_domains.specs.declared.shape.Ends.{Ends}
 use Rattle.mn_domains.specs.declared.shape.Shape.{Shape}
 use Rattle.mn_domains.specs.declared.shape.Shape.TheVariants.{Stretch, Listed, Bits}
 use Rattle.mn_domains.specs.declared.state.State.{State}
-
--- bit i of a row of words of 64 bits
-abbrev pub bit_of : List ℕ → ℕ → Bool
-bit_of words i = bit_at (slice_index words (i / 64)) (i % 64) == 1
-
--- the row with bit i cleared
-abbrev pub cleared : List ℕ → ℕ → List ℕ
-cleared words i = slice_set words (i / 64) (bit_and (slice_index words (i / 64)) (bit_not w64 (2 ^ (i % 64))))
 
 -- whether the bit of a value is set, where bit `at` is that of lo
 abbrev pub has_bit : List ℕ → ℤ → ℕ → ℤ → Bool
@@ -145,6 +139,10 @@ pub record IsKept (listed : List ℤ) (shapes : List Shape) (now : State) (saved
 -- the sets of a state
 abbrev pub sets_of_state : List ℤ → List Shape → State → List (List ℤ)
 sets_of_state listed shapes s = sets_held listed s.bits.items shapes s.ends.items
+
+-- what contracts see of a state: no flag is held yet
+abbrev pub state_held : List ℤ → List Shape → State → Seen
+state_held listed shapes s = record { sets = sets_of_state listed shapes s; flags = [] }
 
 -- these are the ends of all that is declared
 abbrev pub AreFullEnds : Shape → Ends → Type 0

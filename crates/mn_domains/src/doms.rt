@@ -1,4 +1,4 @@
-ghost use Rattle.std.specs.Prelude.{◌≡◌, ◌<◌, [], ◌∷◌, ◌++◌, IsTrue, ◌↔◌, IfOk, OnOk, OnErr, filter, int_le, int_lt, length};
+ghost use Rattle.std.specs.Prelude.{◌≡◌, ◌<◌, [], IsTrue, ◌↔◌, IfOk, OnOk, OnErr, filter, int_le, int_lt, length};
 ghost use Rattle.std.specs.Ordering.{int_eq};
 ghost use Rattle.mn_model.specs.Domain.{Has, IsFirst, IsLast};
 ghost use Rattle.mn_model.specs.Variable.{number_of};
@@ -30,30 +30,33 @@ pub struct Doms {
 }
 
 impl Model for Doms {
-    ghost use Rattle.std.specs.Prelude.{map};
+    ghost use Rattle.std.specs.Prelude.{[], map};
     ghost use Rattle.mn_domains.specs.Sets.{Sets};
 
     ghost Value = { Sets };
 
-    ghost use Rattle.mn_domains.specs.Held.{IsKept, sets_of_state, variable_held};
+    ghost use Rattle.mn_domains.specs.Held.{IsKept, state_held, variable_held};
 
     ghost view = { λ d. record {
       vars = map (variable_held d.listed.items) d.shapes.items;
-      sets = sets_of_state d.listed.items d.shapes.items d.current;
-      saved = map (sets_of_state d.listed.items d.shapes.items) d.saved.items;
+      now = state_held d.listed.items d.shapes.items d.current;
+      saved = map (state_held d.listed.items d.shapes.items) d.saved.items;
+      owners = [];
     } };
 
     ghost invariant = { λ d. IsKept d.listed.items d.shapes.items d.current d.saved.items };
 }
 
 impl Doms {
-    ghost use Rattle.mn_domains.specs.Changes.{Changed, Restored, is_not};
+    ghost use Rattle.mn_domains.specs.Changes.{Changed, Restored, is_not, saved_now};
     ghost use Rattle.mn_domains.specs.Sets.{AreBoxes, Sets};
 
-    /// The declared sets, with none saved.
+    /// The declared sets, with no flags and no state saved.
     pub fn build(alloc: Global, inst: &Instance) -> Result<Doms, AllocError>
         ensures vars { IfOk result (λ d. d.vars ≡ declared_variables inst.now.decls) }
-        ensures sets { IfOk result (λ d. d.sets ≡ domains_of inst.now.decls) }
+        ensures sets { IfOk result (λ d. d.now.sets ≡ domains_of inst.now.decls) }
+        ensures flags { IfOk result (λ d. d.now.flags ≡ []) }
+        ensures owners { IfOk result (λ d. d.owners ≡ []) }
         ensures saved { IfOk result (λ d. d.saved ≡ []) }
     {
         let layout = layout_of(alloc, inst)?;
@@ -75,46 +78,56 @@ impl Doms {
 
     /// How many variables there are.
     pub fn vars(&self) -> usize
-        ensures { result ≡ length self.now.sets }
+        ensures { result ≡ length self.now.vars }
     {
         self.shapes.len()
     }
 
     /// The least value of the variable's set.
     pub fn lo(&self, v: VarId) -> i64
-        requires { number_of v < length self.now.sets }
-        ensures { IsFirst result (set_of self.now.sets (number_of v)) }
+        requires { number_of v < length self.now.vars }
+        ensures { IsFirst result (set_of self.now.now.sets (number_of v)) }
     {
         self.current.ends[v.number() as usize].lo
     }
 
     /// The greatest value of the variable's set.
     pub fn hi(&self, v: VarId) -> i64
-        requires { number_of v < length self.now.sets }
-        ensures { IsLast result (set_of self.now.sets (number_of v)) }
+        requires { number_of v < length self.now.vars }
+        ensures { IsLast result (set_of self.now.now.sets (number_of v)) }
     {
         self.current.ends[v.number() as usize].hi
     }
 
+    /// The least and the greatest value of the variable's set.
+    pub fn bounds(&self, v: VarId) -> (i64, i64)
+        requires { number_of v < length self.now.vars }
+        ensures low { IsFirst result.0 (set_of self.now.now.sets (number_of v)) }
+        ensures high { IsLast result.1 (set_of self.now.now.sets (number_of v)) }
+    {
+        let ends = self.current.ends[v.number() as usize];
+        (ends.lo, ends.hi)
+    }
+
     /// How many values the variable's set has.
     pub fn size(&self, v: VarId) -> u64
-        requires { number_of v < length self.now.sets }
-        ensures { result ≡ length (set_of self.now.sets (number_of v)) }
+        requires { number_of v < length self.now.vars }
+        ensures { result ≡ length (set_of self.now.now.sets (number_of v)) }
     {
         self.current.ends[v.number() as usize].size
     }
 
     /// How many values all sets have together.
     pub fn left(&self) -> u64
-        ensures { result ≡ count_of self.now.sets }
+        ensures { result ≡ count_of self.now.now.sets }
     {
         self.current.left
     }
 
     /// Whether `a` is in the variable's set.
     pub fn has(&self, v: VarId, a: i64) -> bool
-        requires { number_of v < length self.now.sets }
-        ensures { IsTrue result ↔ Has (set_of self.now.sets (number_of v)) a }
+        requires { number_of v < length self.now.vars }
+        ensures { IsTrue result ↔ Has (set_of self.now.now.sets (number_of v)) a }
     {
         let i = v.number() as usize;
         shape::has(
@@ -129,8 +142,8 @@ impl Doms {
     /// Whether `a` alone may be taken out of the variable's set. The values of a BOUND or SPARSEBOUND variable go at the
     /// ends alone.
     pub fn may_remove(&self, v: VarId, a: i64) -> bool
-        requires { number_of v < length self.now.sets }
-        ensures { IsTrue result ↔ MayGo (variable_at self.now.vars (number_of v)) (set_of self.now.sets (number_of v)) a }
+        requires { number_of v < length self.now.vars }
+        ensures { IsTrue result ↔ MayGo (variable_at self.now.vars (number_of v)) (set_of self.now.now.sets (number_of v)) a }
     {
         let i = v.number() as usize;
         shape::may_go(
@@ -144,8 +157,8 @@ impl Doms {
 
     /// The least value of the variable's set that is greater than `a`.
     pub fn next(&self, v: VarId, a: i64) -> Option<i64>
-        requires { number_of v < length self.now.sets }
-        ensures { result ≡ least (filter (λ x. int_lt a x) (set_of self.now.sets (number_of v))) }
+        requires { number_of v < length self.now.vars }
+        ensures { result ≡ least (filter (λ x. int_lt a x) (set_of self.now.now.sets (number_of v))) }
     {
         let i = v.number() as usize;
         shape::next(
@@ -159,7 +172,7 @@ impl Doms {
 
     /// Keeps the values that are at least `a`.
     pub fn set_lo(&mut self, v: VarId, a: i64) -> Result<Moved, Emptied>
-        requires { number_of v < length self.old.sets }
+        requires { number_of v < length self.old.vars }
         ensures { Changed (λ x. int_le a x) (number_of v) self.old self.new result }
     {
         let i = v.number() as usize;
@@ -179,7 +192,7 @@ impl Doms {
 
     /// Keeps the values that are at most `a`.
     pub fn set_hi(&mut self, v: VarId, a: i64) -> Result<Moved, Emptied>
-        requires { number_of v < length self.old.sets }
+        requires { number_of v < length self.old.vars }
         ensures { Changed (λ x. int_le x a) (number_of v) self.old self.new result }
     {
         let i = v.number() as usize;
@@ -199,7 +212,7 @@ impl Doms {
 
     /// Keeps `a` alone.
     pub fn assign(&mut self, v: VarId, a: i64) -> Result<Moved, Emptied>
-        requires { number_of v < length self.old.sets }
+        requires { number_of v < length self.old.vars }
         ensures { Changed (λ x. int_eq x a) (number_of v) self.old self.new result }
     {
         let i = v.number() as usize;
@@ -216,8 +229,8 @@ impl Doms {
 
     /// Keeps the values other than `a`.
     pub fn remove(&mut self, v: VarId, a: i64) -> Result<Moved, Emptied>
-        requires within { number_of v < length self.old.sets }
-        requires may { MayGo (variable_at self.old.vars (number_of v)) (set_of self.old.sets (number_of v)) a }
+        requires within { number_of v < length self.old.vars }
+        requires may { MayGo (variable_at self.old.vars (number_of v)) (set_of self.old.now.sets (number_of v)) a }
         ensures { Changed (is_not a) (number_of v) self.old self.new result }
     {
         let i = v.number() as usize;
@@ -237,9 +250,9 @@ impl Doms {
         }
     }
 
-    /// Keeps a copy of all sets.
+    /// Keeps a copy of the state.
     pub fn save(&mut self) -> Result<(), AllocError>
-        ensures ok { OnOk result (self.new ≡ record self.old { saved = self.old.saved ++ self.old.sets ∷ [] }) }
+        ensures ok { OnOk result (self.new ≡ saved_now self.old) }
         ensures err { OnErr result (self.new ≡ self.old) }
     {
         let copy = self.current.copy(*self.saved.allocator())?;
@@ -247,7 +260,7 @@ impl Doms {
         Ok(())
     }
 
-    /// Goes back to the sets that were saved last. False exactly where none are saved.
+    /// Goes back to the state that was saved last. False exactly where none is saved.
     pub fn restore(&mut self) -> bool
         ensures { Restored self.old self.new result }
     {

@@ -8,11 +8,11 @@
 //! by a bit for each value. Only `build` and `save` take memory. The crate stands on `mn_boxes` and `mn_model`.
 #![tactic(auto)]
 
-mod bits;
 mod doms;
 mod layout;
 mod listed;
 mod marked;
+mod rows;
 mod shape;
 mod state;
 

@@ -3,10 +3,9 @@ ghost use Rattle.std.specs.Prelude.{◌≡◌, ℕ, ◌+◌, ◌-◌, ◌*◌, �
 ghost use Rattle.std.specs.Int.{int_gap};
 ghost use Rattle.std.specs.Ordering.{int_eq};
 ghost use Rattle.mn_model.specs.Domain.{Has, IsValue};
-ghost use Rattle.mn_domains.specs.Changes.{is_not};
 ghost use Rattle.mn_domains.specs.Held.{AreEndsOf, IsRoom, IsRow, IsSpan, has_bit, marked};
 
-use super::bits::{is_set, next_set, previous_set};
+use mn_boxes::bits::{count, is_set, next_set, previous_set};
 use super::shape::Ends;
 
 /// The number of the bit of `a`.
@@ -91,59 +90,27 @@ pub fn only(bits: &[u64], lo: i64, at: usize, ends: Ends, a: i64) -> Ends
     }
 }
 
-/// The set without its least value.
-fn without_least(bits: &[u64], lo: i64, at: usize, ends: Ends) -> Ends
-    requires row { IsRow bits.now lo at ends }
-    requires ends { AreEndsOf (marked bits.now lo at ends) ends }
-    requires more { ends.lo <ℤ ends.hi }
-    ensures row { IsRow bits.now lo at result }
-    ensures ends { AreEndsOf (marked bits.now lo at result) result }
-    ensures values { marked bits.now lo at result ≡ filter (is_not ends.lo) (marked bits.now lo at ends) }
-    ensures more { ends.lo <ℤ result.lo }
-    ensures high { result.hi ≡ ends.hi }
-{
-    Ends {
-        lo: least_from(bits, lo, at, ends.lo + 1, ends.hi),
-        hi: ends.hi,
-        size: ends.size - 1,
-        place: ends.place,
-    }
-}
-
-/// The set without its greatest value.
-fn without_greatest(bits: &[u64], lo: i64, at: usize, ends: Ends) -> Ends
-    requires row { IsRow bits.now lo at ends }
-    requires ends { AreEndsOf (marked bits.now lo at ends) ends }
-    requires more { ends.lo <ℤ ends.hi }
-    ensures row { IsRow bits.now lo at result }
-    ensures ends { AreEndsOf (marked bits.now lo at result) result }
-    ensures values { marked bits.now lo at result ≡ filter (is_not ends.hi) (marked bits.now lo at ends) }
-    ensures more { result.hi <ℤ ends.hi }
-    ensures low { result.lo ≡ ends.lo }
-{
-    Ends {
-        lo: ends.lo,
-        hi: greatest_to(bits, lo, at, ends.lo, ends.hi - 1),
-        size: ends.size - 1,
-        place: ends.place,
-    }
-}
-
 /// The set without the values below `a`.
 pub fn cut_low(bits: &[u64], lo: i64, at: usize, ends: Ends, a: i64) -> Ends
     requires row { IsRow bits.now lo at ends }
     requires ends { AreEndsOf (marked bits.now lo at ends) ends }
+    requires low { ends.lo <ℤ a }
     requires high { a ≤ℤ ends.hi }
     ensures row { IsRow bits.now lo at result }
     ensures ends { AreEndsOf (marked bits.now lo at result) result }
     ensures values { marked bits.now lo at result ≡ filter (λ x. int_le a x) (marked bits.now lo at ends) }
     ensures high { result.hi ≡ ends.hi }
 {
-    let mut cut = ends;
-    while cut.lo < a {
-        cut = without_least(bits, lo, at, cut);
+    let least = least_from(bits, lo, at, a, ends.hi);
+    let from = bit_number(lo, at, ends.lo);
+    let to = bit_number(lo, at, a);
+    let lost = count(bits, from, to);
+    Ends {
+        lo: least,
+        hi: ends.hi,
+        size: ends.size - lost as u64,
+        place: ends.place,
     }
-    cut
 }
 
 /// The set without the values above `a`.
@@ -151,15 +118,21 @@ pub fn cut_high(bits: &[u64], lo: i64, at: usize, ends: Ends, a: i64) -> Ends
     requires row { IsRow bits.now lo at ends }
     requires ends { AreEndsOf (marked bits.now lo at ends) ends }
     requires low { ends.lo ≤ℤ a }
+    requires high { a <ℤ ends.hi }
     ensures row { IsRow bits.now lo at result }
     ensures ends { AreEndsOf (marked bits.now lo at result) result }
     ensures values { marked bits.now lo at result ≡ filter (λ x. int_le x a) (marked bits.now lo at ends) }
     ensures low { result.lo ≡ ends.lo }
     ensures high { result.hi ≤ℤ ends.hi }
 {
-    let mut cut = ends;
-    while a < cut.hi {
-        cut = without_greatest(bits, lo, at, cut);
+    let greatest = greatest_to(bits, lo, at, ends.lo, a);
+    let from = bit_number(lo, at, a);
+    let to = bit_number(lo, at, ends.hi);
+    let lost = count(bits, from + 1, to + 1);
+    Ends {
+        lo: ends.lo,
+        hi: greatest,
+        size: ends.size - lost as u64,
+        place: ends.place,
     }
-    cut
 }

@@ -3,7 +3,7 @@ ghost use Rattle.std.specs.Prelude.{◌≡◌, ◌+◌, ◌*◌, ◌^◌, ◌<�
 ghost use Rattle.std.specs.List.{AllByRecursion, AllZip};
 ghost use Rattle.mn_domains.specs.Held.{IsFull, IsShape, TellsMoved, cleared, sizes};
 
-use super::bits::{WIDTH, is_set};
+use mn_boxes::bits::{WIDTH, is_set};
 use super::layout::Layout;
 use super::shape::{self, Ends, Shape};
 use mn_boxes::Moved;

@@ -1,201 +1,255 @@
--- A round of passes, and rounds until nothing changes.
-use Rattle.std.proofs.Common.{◌≡◌, ℕ, zero, suc, ◌+◌, ◌<◌, ◌≤◌, ℤ, inl, inr, Bool, true, false, List, [], ◌∷◌, length, slice_get, slice_set, Some, Result, Ok, Err, IsErr, refl, sym, subst, ap, ◌∙◌, arith}
-use Rattle.std.proofs.lemmas.Option.{slice_get_within}
+-- A round of passes, and rounds until the sets are closed.
+use Rattle.std.proofs.Common.{◌≡◌, ℕ, zero, suc, ◌+◌, ◌-◌, ◌<◌, ◌≤◌, ◌⊎◌, ℤ, inl, inr, Bool, true, false, not, List, [], ◌∷◌, length, map, option_map, slice_get, slice_set, Some, Result, Ok, Err, refl, sym, subst, ap, ◌∙◌, arith}
+use Rattle.std.proofs.lemmas.Option.{slice_get-map, slice_get_within}
 use Rattle.std.specs.List.{AllByRecursion}
 use Rattle.mn_model.specs.Decided.{Decided, decide_nat}
-use Rattle.mn_model.specs.declared.constraint.Con.{Con}
-use Rattle.mn_model.specs.declared.declaration.Tuples.{Tuples}
+use Rattle.mn_model.specs.declared.constraint.Term.{Term}
 use Rattle.mn_model.proofs.Lists.{all_at}
-use Rattle.mn_boxes.specs.Boxes.{IsBox}
+use Rattle.mn_boxes.specs.Boxes.{IsBox, Inside, count_of}
 use Rattle.mn_boxes.specs.Sets.{Variable}
-use Rattle.mn_domains.specs.Sets.{Sets}
-use Rattle.mn_prop.specs.Passes.{ClosedUnder, IsReady, IsStep}
+use Rattle.mn_prop.specs.Contexts.{Context, box_of, vars_of}
+use Rattle.mn_prop.specs.Passes.{IsStep, Keeps, NoneHas, OnlyTakes}
+use Rattle.mn_prop.specs.Posts.{ClosedUnder, IsReadyToRun, Posted}
 use Rattle.mn_prop.specs.declared.context.Fail.{Fail}
-use Rattle.mn_prop.proofs.Going.{Going, arrives, begins, goes_on, goes_wrong, same_before}
-use Rattle.mn_engine.specs.Settling.{AreAlike, AreReady, ClosedEach, ComesAt, IsSettled}
+use Rattle.mn_prop.proofs.Boxing.{inside_itself}
+use Rattle.mn_prop.proofs.Stepping.{Rules, no_more, none_gone, noted, only_takes, some_gone, taken_at_rest, taken_through, taken_vars}
+use Rattle.mn_engine.specs.Settling.{AreReady, ClosedEach, ComesAt, FirstClosed, IsAmong, IsSettled, closed_last}
 
--- the place k is among the first i of so many, from the first one or from the last
-abbrev pub IsPast : Bool → ℕ → ℕ → ℕ → Type 0
-IsPast false len i k = k < i
-IsPast true len i k = len ≤ (k + i)
+-- ---- places, from the first one or from the last
 
-none_past : (back : Bool) (len k : ℕ) → k < len → IsPast back len 0 k → ⊥
-none_past false len k within past = omega (arith, past)
-none_past true len k within past = omega (arith, within, past)
+one_among : (back : Bool) (len i at k : ℕ) → ComesAt back len i at → IsAmong back len (i + 1) k → (k ≡ at → ⊥) → IsAmong back len i k
+one_among false len i at k comes among differs = omega (arith, comes, among, differs)
+one_among true len i at k comes among differs = omega (arith, comes, among, differs)
 
-one_past : (back : Bool) (len i at k : ℕ) → ComesAt back len i at → IsPast back len (i + 1) k → (k ≡ at → ⊥) → IsPast back len i k
-one_past false len i at k comes past differs = omega (arith, comes, past, differs)
-one_past true len i at k comes past differs = omega (arith, comes, past, differs)
+-- those that are among one more and not among so many are the one
+only_one : (back : Bool) (len i at k : ℕ) → ComesAt back len i at → IsAmong back len (i + 1) k → (IsAmong back len i k → ⊥) → k ≡ at
+only_one false len i at k comes among not_yet = omega (arith, comes, among, not_yet)
+only_one true len i at k comes among not_yet = omega (arith, comes, among, not_yet)
 
-all_past : (back : Bool) (len n k : ℕ) → len ≤ n → k < len → IsPast back len n k
-all_past false len n k le within = omega (arith, le, within)
-all_past true len n k le within = omega (arith, le, within)
+all_among : (back : Bool) (len k : ℕ) → k < len → IsAmong back len len k
+all_among false len k within = within
+all_among true len k within = omega (arith, within)
+
+-- the last of them are the first in the other direction
+turned_round : (back : Bool) (len last k : ℕ) → k < len → last ≤ len → IsAmong (not back) len last k → IsAmong back len (len - last) k → ⊥
+turned_round false len last k within few among front = omega (arith, within, few, among, front)
+turned_round true len last k within few among front = omega (arith, within, few, among, front)
 
 pub comes_within : (back : Bool) (len i at : ℕ) → i < len → ComesAt back len i at → at < len
 comes_within false len i at below comes = omega (arith, below, comes)
 comes_within true len i at below comes = omega (arith, below, comes)
 
-module _ {P : Type 0} (con_of : P → Con) (lists_of : P → List Tuples) where
-  pub alike_itself : (xs : List P) → AreAlike con_of lists_of xs xs
-  alike_itself [] = tt
-  alike_itself (x ∷ xs) = ((refl, refl), alike_itself xs)
+-- ---- what the propagators were posted for
 
-  pub alike_through : (xs ys zs : List P) → AreAlike con_of lists_of xs ys → AreAlike con_of lists_of ys zs → AreAlike con_of lists_of xs zs
-  alike_through [] [] [] one two = tt
-  alike_through [] [] (z ∷ zs) one two = absurd two
-  alike_through [] (y ∷ ys) zs one two = absurd one
-  alike_through (x ∷ xs) [] zs one two = absurd one
-  alike_through (x ∷ xs) (y ∷ ys) [] one two = absurd two
-  alike_through (x ∷ xs) (y ∷ ys) (z ∷ zs) one two = ((two.0.0 ∙ one.0.0, two.0.1 ∙ one.0.1), alike_through xs ys zs one.1 two.1)
+pub posted_at : {P : Type 0} (f : P → Posted) (ys : List P) (m : ℕ) (y : P) → slice_get ys m ≡ Some y → slice_get (map f ys) m ≡ Some (f y)
+posted_at f ys m y at = slice_get-map f ys m ∙ ap (option_map f) at
 
-  pub alike_length : (xs ys : List P) → AreAlike con_of lists_of xs ys → length ys ≡ length xs
-  alike_length [] [] alike = refl
-  alike_length [] (y ∷ ys) alike = absurd alike
-  alike_length (x ∷ xs) [] alike = absurd alike
-  alike_length (x ∷ xs) (y ∷ ys) alike = ap suc (alike_length xs ys alike.1)
+-- one that has passed stands in the place of the one before
+pub posted_set : {P : Type 0} (f : P → Posted) (ys : List P) (m : ℕ) (y z : P) → slice_get ys m ≡ Some y → f z ≡ f y → map f (slice_set ys m z) ≡ map f ys
+posted_set f [] m y z at same = refl
+posted_set f (w ∷ ys) zero y z at same = let is : w ≡ y = cc in ap (λ p. p ∷ map f ys) (same ∙ sym (ap f is))
+posted_set f (w ∷ ys) (suc m) y z at same = ap (λ ps. f w ∷ ps) (posted_set f ys m y z at same)
 
-  -- one that has passed stands in the place of the one before
-  pub alike_set : (xs ys : List P) (i : ℕ) (y z : P) → AreAlike con_of lists_of xs ys → slice_get ys i ≡ Some y → con_of z ≡ con_of y → lists_of z ≡ lists_of y → AreAlike con_of lists_of xs (slice_set ys i z)
-  alike_set [] [] i y z alike at same same_lists = alike
-  alike_set [] (w ∷ ys) i y z alike at same same_lists = absurd alike
-  alike_set (x ∷ xs) [] i y z alike at same same_lists = absurd alike
-  alike_set (x ∷ xs) (w ∷ ys) zero y z alike at same same_lists = let is : w ≡ y = cc in ((same ∙ (sym (ap con_of is) ∙ alike.0.0), same_lists ∙ (sym (ap lists_of is) ∙ alike.0.1)), alike.1)
-  alike_set (x ∷ xs) (w ∷ ys) (suc i) y z alike at same same_lists = (alike.0, alike_set xs ys i y z alike.1 at same same_lists)
+all_from : (Q : Posted → Type 0) (posts : List Posted) → ((k : ℕ) (p : Posted) → slice_get posts k ≡ Some p → Q p) → AllByRecursion Q posts
+all_from Q [] each = tt
+all_from Q (p ∷ posts) each = (each 0 p refl, all_from Q posts (λ k q at. each (suc k) q at))
 
-  -- the one at a place, and the one that stood there first
-  pub record StoodAt (xs : List P) (i : ℕ) (y : P) : Type 0 where
-    pub first : P
-    pub stood : slice_get xs i ≡ Some first
-    pub con_is : con_of y ≡ con_of first
-    pub lists_are : lists_of y ≡ lists_of first
+-- ---- passes one behind another
 
-  pub stood_at : (xs ys : List P) (i : ℕ) (y : P) → AreAlike con_of lists_of xs ys → slice_get ys i ≡ Some y → StoodAt xs i y
-  stood_at [] [] i y alike at = cc
-  stood_at [] (w ∷ ys) i y alike at = absurd alike
-  stood_at (x ∷ xs) [] i y alike at = absurd alike
-  stood_at (x ∷ xs) (w ∷ ys) zero y alike at = let is : w ≡ y = cc in record { first = x; stood = refl; con_is = sym (ap con_of is) ∙ alike.0.0; lists_are = sym (ap lists_of is) ∙ alike.0.1 }
-  stood_at (x ∷ xs) (w ∷ ys) (suc i) y alike at = let rest = stood_at xs ys i y alike.1 at in record { first = rest.first; stood = rest.stood; con_is = rest.con_is; lists_are = rest.lists_are }
+-- values alone went so far, and each box that is closed under each is left
+pub record Onward (posts : List Posted) (old now : Context) : Type 0 where
+  pub takes : OnlyTakes old now
+  pub sound : Keeps (vars_of old) (ClosedEach (vars_of old) posts) (box_of old) (box_of now)
+  pub no_more : count_of (box_of now) ≤ count_of (box_of old)
 
-  all_from : (Q : P → Type 0) (xs : List P) → ((k : ℕ) (x : P) → slice_get xs k ≡ Some x → Q x) → AllByRecursion Q xs
-  all_from Q [] each = tt
-  all_from Q (x ∷ xs) each = (each 0 x refl, all_from Q xs (λ k y at. each (suc k) y at))
+onward_itself : (posts : List Posted) (c : Context) → Onward posts c c
+onward_itself posts c = record { takes = record { frame = refl; boxes = λ is. is; inside = inside_itself (box_of c) }; sound = λ box is i closed. i; no_more = omega arith }
 
-  -- what the lists of runners say of each other's boxes
-  pub ready_alike : (vars : List Variable) (xs ys : List P) → AreAlike con_of lists_of xs ys → AreReady con_of lists_of vars xs → AreReady con_of lists_of vars ys
-  ready_alike vars [] [] alike ready = tt
-  ready_alike vars [] (y ∷ ys) alike ready = absurd alike
-  ready_alike vars (x ∷ xs) [] alike ready = absurd alike
-  ready_alike vars (x ∷ xs) (y ∷ ys) alike ready =
-      (subst (λ lists. IsReady vars lists (con_of y)) (sym alike.0.1) (subst (λ c. IsReady vars (lists_of x) c) (sym alike.0.0) ready.0), ready_alike vars xs ys alike.1 ready.1)
+at_rest : Context → Context
+at_rest c = record c { moved = false }
 
-  pub closed_alike : (vars : List Variable) (xs ys : List P) (box : List (List ℤ)) → AreAlike con_of lists_of xs ys → ClosedEach con_of lists_of vars xs box → ClosedEach con_of lists_of vars ys box
-  closed_alike vars [] [] box alike closed = tt
-  closed_alike vars [] (y ∷ ys) box alike closed = absurd alike
-  closed_alike vars (x ∷ xs) [] box alike closed = absurd alike
-  closed_alike vars (x ∷ xs) (y ∷ ys) box alike closed =
-      (subst (λ lists. ClosedUnder vars lists (con_of y) box) (sym alike.0.1) (subst (λ c. ClosedUnder vars (lists_of x) c box) (sym alike.0.0) closed.0), closed_alike vars xs ys box alike.1 closed.1)
+module _ {R : Rules} {posts : List Posted} {old now new : Context} {m : ℕ} {p : Posted} (onward : Onward posts old now) (at : slice_get posts m ≡ Some p) where
+  -- a box that is closed under each is closed under the one that passes
+  closed_here : (box : List (List ℤ)) → ClosedEach (vars_of old) posts box → ClosedUnder (vars_of now) p box
+  closed_here box closed = subst (λ vars. ClosedUnder vars p box) (sym (taken_vars onward.takes)) (all_at (λ q. ClosedUnder (vars_of old) q box) posts m p closed at)
 
-  pub closed_back : (vars : List Variable) (xs ys : List P) (box : List (List ℤ)) → AreAlike con_of lists_of xs ys → ClosedEach con_of lists_of vars ys box → ClosedEach con_of lists_of vars xs box
-  closed_back vars [] [] box alike closed = tt
-  closed_back vars [] (y ∷ ys) box alike closed = absurd alike
-  closed_back vars (x ∷ xs) [] box alike closed = absurd alike
-  closed_back vars (x ∷ xs) (y ∷ ys) box alike closed =
-      (subst (λ lists. ClosedUnder vars lists (con_of x) box) alike.0.1 (subst (λ c. ClosedUnder vars (lists_of y) c box) alike.0.0 closed.0), closed_back vars xs ys box alike.1 closed.1)
+  box_here : (box : List (List ℤ)) → IsBox (vars_of old) box → IsBox (vars_of now) box
+  box_here box is = subst (λ vars. IsBox vars box) (sym (taken_vars onward.takes)) is
 
-  -- ---- a round
-
-  -- the first i of the propagators have passed, in order or in the other direction
-  pub record Passing (back : Bool) (xs ys : List P) (old now : Sets) (i : ℕ) : Type 0 where
-    pub alike : AreAlike con_of lists_of xs ys
-    pub going : Going (ClosedEach con_of lists_of old.vars xs) old now
-    pub still : now.sets ≡ old.sets → (k : ℕ) (x : P) → slice_get xs k ≡ Some x → IsPast back (length xs) i k → ClosedUnder old.vars (lists_of x) (con_of x) old.sets
-
-  pub none_passed : (back : Bool) (xs : List P) (s : Sets) → Passing back xs xs s s 0
-  none_passed back xs s = record { alike = alike_itself xs; going = begins (ClosedEach con_of lists_of s.vars xs) s; still = λ same k x at past. absurd (none_past back (length xs) k (slice_get_within xs k x at) past) }
-
-  -- the one at a place is ready, and a box that is closed under each is closed under it
-  pub is_ready : (back : Bool) (xs ys : List P) (old now : Sets) (i m : ℕ) (y : P) → Passing back xs ys old now i → AreReady con_of lists_of old.vars xs → slice_get ys m ≡ Some y → IsReady now.vars (lists_of y) (con_of y)
-  is_ready back xs ys old now i m y passing ready at =
-      subst (λ vars. IsReady vars (lists_of y) (con_of y)) (sym passing.going.takes.vars) (all_at (λ p. IsReady old.vars (lists_of p) (con_of p)) ys m y (ready_alike old.vars xs ys passing.alike ready) at)
-
-  closed_here : (back : Bool) (xs ys : List P) (old now : Sets) (i m : ℕ) (y : P) → Passing back xs ys old now i → slice_get ys m ≡ Some y → (box : List (List ℤ)) → ClosedEach con_of lists_of old.vars xs box → ClosedUnder now.vars (lists_of y) (con_of y) box
-  closed_here back xs ys old now i m y passing at box closed =
-      subst (λ vars. ClosedUnder vars (lists_of y) (con_of y) box) (sym passing.going.takes.vars) (all_at (λ p. ClosedUnder old.vars (lists_of p) (con_of p) box) ys m y (closed_alike old.vars xs ys box passing.alike closed) at)
-
-  -- where nothing is gone, the box is closed under the one that passes too
-  still_closed : (back : Bool) (xs ys : List P) (old now new : Sets) (i m : ℕ) (y : P) (done : Unit {0}) → Passing back xs ys old now i → IsBox old.vars old.sets → IsBox now.vars now.sets → ComesAt back (length xs) i m → slice_get ys m ≡ Some y
-      → IsStep (ClosedUnder now.vars (lists_of y) (con_of y)) now new (Ok done) → new.sets ≡ old.sets → (k : ℕ) (x : P) → slice_get xs k ≡ Some x → IsPast back (length xs) (i + 1) k → ClosedUnder old.vars (lists_of x) (con_of x) old.sets
-  still_closed back xs ys old now new i m y done passing is_old is_now comes at step same_sets k x stands past = by (decide_nat k m)
-    where
-      before : now.sets ≡ old.sets
-      before = same_before (ClosedEach con_of lists_of old.vars xs) old now new is_old is_now passing.going step.takes same_sets
-
-      by : Decided (k ≡ m) → ClosedUnder old.vars (lists_of x) (con_of x) old.sets
-      by (inl same) =
-          let first = stood_at xs ys m y passing.alike at in
-          let here : ClosedUnder now.vars (lists_of y) (con_of y) now.sets = step.still (same_sets ∙ sym before) in
-          let there : ClosedUnder old.vars (lists_of y) (con_of y) old.sets = subst (ClosedUnder old.vars (lists_of y) (con_of y)) before (subst (λ vars. ClosedUnder vars (lists_of y) (con_of y) now.sets) passing.going.takes.vars here) in
-          let under : ClosedUnder old.vars (lists_of first.first) (con_of first.first) old.sets = subst (λ lists. ClosedUnder old.vars lists (con_of first.first) old.sets) first.lists_are (subst (λ c. ClosedUnder old.vars (lists_of y) c old.sets) first.con_is there) in
-          subst (λ p. ClosedUnder old.vars (lists_of p) (con_of p) old.sets) (same_one first.first (subst (λ n. slice_get xs n ≡ Some x) same stands) first.stood) under
-        where
-          same_one : (p : P) → slice_get xs m ≡ Some x → slice_get xs m ≡ Some p → p ≡ x
-          same_one p one another = cc
-      by (inr differs) = passing.still before k x stands (one_past back (length xs) i m k comes past differs)
-
-  -- it passes
-  pub passes : (back : Bool) (xs ys : List P) (old now new : Sets) (i m : ℕ) (y z : P) (done : Unit {0}) → Passing back xs ys old now i → IsBox old.vars old.sets → IsBox now.vars now.sets → ComesAt back (length xs) i m → slice_get ys m ≡ Some y → con_of z ≡ con_of y → lists_of z ≡ lists_of y
-      → IsStep (ClosedUnder now.vars (lists_of y) (con_of y)) now new (Ok done) → Passing back xs (slice_set ys m z) old new (i + 1)
-  passes back xs ys old now new i m y z done passing is_old is_now comes at same same_lists step = record {
-    alike = alike_set xs ys m y z passing.alike at same same_lists;
-    going = goes_on (ClosedEach con_of lists_of old.vars xs) (ClosedUnder now.vars (lists_of y) (con_of y)) old now new done passing.going (λ box is inside closed. closed_here back xs ys old now i m y passing at box closed) step;
-    still = λ same_sets. still_closed back xs ys old now new i m y done passing is_old is_now comes at step same_sets;
-  }
-
-  -- or fails
-  pub fails : (back : Bool) (xs ys : List P) (old now new : Sets) (i m : ℕ) (y : P) (fail : Fail) (end : Result (Unit {0}) Fail) → Passing back xs ys old now i → slice_get ys m ≡ Some y → IsStep (ClosedUnder now.vars (lists_of y) (con_of y)) now new (Err fail) → IsErr end
-      → IsStep (ClosedEach con_of lists_of old.vars xs) old new end
-  fails back xs ys old now new i m y fail end passing at step err =
-      goes_wrong (ClosedEach con_of lists_of old.vars xs) (ClosedUnder now.vars (lists_of y) (con_of y)) old now new fail end passing.going (λ box is inside closed. closed_here back xs ys old now i m y passing at box closed) step err
-
-  pub all_passed : (back : Bool) (xs ys : List P) (old now : Sets) (n : ℕ) → length xs ≤ n → Passing back xs ys old now n → IsStep (ClosedEach con_of lists_of old.vars xs) old now (Ok tt)
-  all_passed back xs ys old now n le passing =
-      arrives (ClosedEach con_of lists_of old.vars xs) old now passing.going
-      (λ same. all_from (λ p. ClosedUnder old.vars (lists_of p) (con_of p) old.sets) xs (λ k x at. passing.still same k x at (all_past back (length xs) n k le (slice_get_within xs k x at))))
-
-  -- ---- rounds
-
-  pub record Rounds (xs ys : List P) (old now : Sets) : Type 0 where
-    pub alike : AreAlike con_of lists_of xs ys
-    pub going : Going (ClosedEach con_of lists_of old.vars xs) old now
-
-  pub no_round : (xs : List P) (s : Sets) → Rounds xs xs s s
-  no_round xs s = record { alike = alike_itself xs; going = begins (ClosedEach con_of lists_of s.vars xs) s }
-
-  pub ready_again : (xs ys : List P) (old now : Sets) → Rounds xs ys old now → AreReady con_of lists_of old.vars xs → AreReady con_of lists_of now.vars ys
-  ready_again xs ys old now rounds ready = subst (λ vars. AreReady con_of lists_of vars ys) (sym rounds.going.takes.vars) (ready_alike old.vars xs ys rounds.alike ready)
-
-  closed_now : (xs ys : List P) (old now : Sets) → Rounds xs ys old now → (box : List (List ℤ)) → ClosedEach con_of lists_of old.vars xs box → ClosedEach con_of lists_of now.vars ys box
-  closed_now xs ys old now rounds box closed = subst (λ vars. ClosedEach con_of lists_of vars ys box) (sym rounds.going.takes.vars) (closed_alike old.vars xs ys box rounds.alike closed)
-
-  -- one more, which took something
-  pub one_more : (xs ys zs : List P) (old now new : Sets) (done : Unit {0}) → Rounds xs ys old now → AreAlike con_of lists_of ys zs → IsStep (ClosedEach con_of lists_of now.vars ys) now new (Ok done) → Rounds xs zs old new
-  one_more xs ys zs old now new done rounds alike step = record {
-    alike = alike_through xs ys zs rounds.alike alike;
-    going = goes_on (ClosedEach con_of lists_of old.vars xs) (ClosedEach con_of lists_of now.vars ys) old now new done rounds.going (λ box is inside closed. closed_now xs ys old now rounds box closed) step;
-  }
-
-  -- one that took nothing is the last
-  pub last_round : (xs ys zs : List P) (old now new : Sets) (done : Unit {0}) → IsBox new.vars new.sets → Rounds xs ys old now → AreAlike con_of lists_of ys zs → IsStep (ClosedEach con_of lists_of now.vars ys) now new (Ok done) → new.sets ≡ now.sets
-      → IsSettled con_of lists_of old.vars xs old.sets new.sets
-  last_round xs ys zs old now new done is rounds alike step same =
-      let end = one_more xs ys zs old now new done rounds alike step in
+  one_onward : {done : Unit {0}} → IsStep R (ClosedUnder (vars_of now) p) (at_rest now) new (Ok done) → Onward posts old new
+  one_onward step =
+      let next : (box : List (List ℤ)) → IsBox (vars_of now) box → Inside box (box_of now) → ClosedUnder (vars_of now) p box → Inside box (box_of new) = step.sound in
+      let few = no_more step.loses in
+      let was = onward.no_more in
       record {
-        lawful = subst (λ vars. IsBox vars new.sets) end.going.takes.vars is;
-        closed = subst (ClosedEach con_of lists_of old.vars xs) (sym same) (closed_back old.vars xs ys now.sets rounds.alike (subst (λ vars. ClosedEach con_of lists_of vars ys now.sets) rounds.going.takes.vars (step.still same)));
-        kept = end.going.sound;
+        takes = taken_through onward.takes (taken_through (taken_at_rest now) (only_takes step.loses));
+        sound = λ box is i closed. next box (box_here box is) (onward.sound box is i closed) (closed_here box closed);
+        no_more = omega (arith, few, was);
       }
 
-  -- and one that fails
-  pub no_more : (xs ys : List P) (old now new : Sets) (fail : Fail) (end : Result (Unit {0}) Fail) → Rounds xs ys old now → IsStep (ClosedEach con_of lists_of now.vars ys) now new (Err fail) → IsErr end → IsStep (ClosedEach con_of lists_of old.vars xs) old new end
-  no_more xs ys old now new fail end rounds step err =
-      goes_wrong (ClosedEach con_of lists_of old.vars xs) (ClosedEach con_of lists_of now.vars ys) old now new fail end rounds.going (λ box is inside closed. closed_now xs ys old now rounds box closed) step err
+  -- or it fails
+  none_onward : {fail : Fail} → IsStep R (ClosedUnder (vars_of now) p) (at_rest now) new (Err fail) → NoneHas (vars_of old) (ClosedEach (vars_of old) posts) (box_of old)
+  none_onward step box is i closed =
+      let none : (b : List (List ℤ)) → IsBox (vars_of now) b → Inside b (box_of now) → ClosedUnder (vars_of now) p b → ⊥ = step.fail in
+      none box (box_here box is) (onward.sound box is i closed) (closed_here box closed)
+
+  taken_onward : {result : Result (Unit {0}) Fail} → IsStep R (ClosedUnder (vars_of now) p) (at_rest now) new result → OnlyTakes old new
+  taken_onward step = taken_through onward.takes (taken_through (taken_at_rest now) (only_takes step.loses))
+
+-- ---- a round
+
+-- all up to place i have passed, and the sets are closed under the last of them
+pub record Passing (back : Bool) (posts : List Posted) (old now : Context) (i last : ℕ) : Type 0 where
+  pub onward : Onward posts old now
+  pub within : i ≤ length posts
+  pub few : last ≤ i
+  pub closed : (k : ℕ) (p : Posted) → slice_get posts k ≡ Some p → IsAmong back (length posts) i k → (IsAmong back (length posts) (i - last) k → ⊥) → ClosedUnder (vars_of old) p (box_of now)
+  pub fewer : (last ≡ i) ⊎ (count_of (box_of now) < count_of (box_of old))
+
+pub none_passed : {back : Bool} {posts : List Posted} {c : Context} {from : ℕ} → from ≤ length posts → FirstClosed back (vars_of c) posts from (box_of c) → Passing back posts c c from from
+none_passed {back = back} {posts = posts} {c = c} {from = from} within first = record { onward = onward_itself posts c; within = within; few = omega arith; closed = λ k p at among front. first k p at among; fewer = inl refl }
+
+module _ {R : Rules} {back : Bool} {posts : List Posted} {old now new : Context} {i last m : ℕ} {p : Posted} {done : Unit {0}} (passing : Passing back posts old now i last) (below : i < length posts) (comes : ComesAt back (length posts) i m) (at : slice_get posts m ≡ Some p)
+  (step : IsStep R (ClosedUnder (vars_of now) p) (at_rest now) new (Ok done)) where
+  the_one : (q : Posted) (k : ℕ) → slice_get posts k ≡ Some q → k ≡ m → p ≡ q
+  the_one q k stands same = one (subst (λ n. slice_get posts n ≡ Some q) same stands) at
+    where
+      one : slice_get posts m ≡ Some q → slice_get posts m ≡ Some p → p ≡ q
+      one a b = cc
+
+  here : (box : List (List ℤ)) → ClosedUnder (vars_of now) p box → ClosedUnder (vars_of old) p box
+  here box closed = subst (λ vars. ClosedUnder vars p box) (taken_vars passing.onward.takes) closed
+
+  -- nothing went
+  one_at_rest : new.moved ≡ false → Passing back posts old new (i + 1) (last + 1)
+  one_at_rest quiet = record {
+    onward = one_onward passing.onward at step;
+    within = omega (arith, below);
+    few = let few = passing.few in omega (arith, few);
+    closed = λ k q stands among front. subst (ClosedUnder (vars_of old) q) (sym same) (by k q stands among (λ before. front (subst (λ n. IsAmong back (length posts) n k) less before)) (decide_nat k m));
+    fewer = as_before passing.fewer;
+  }
+    where
+      same : box_of new ≡ box_of now
+      same = none_gone (at_rest now) new quiet (noted step.loses)
+
+      less : i - last ≡ (i + 1) - (last + 1)
+      less = omega arith
+
+      still : box_of new ≡ box_of now → ClosedUnder (vars_of now) p (box_of now)
+      still = step.still
+
+      by : (k : ℕ) (q : Posted) → slice_get posts k ≡ Some q → IsAmong back (length posts) (i + 1) k → (IsAmong back (length posts) (i - last) k → ⊥) → Decided (k ≡ m) → ClosedUnder (vars_of old) q (box_of now)
+      by k q stands among front (inl is) = subst (λ r. ClosedUnder (vars_of old) r (box_of now)) (the_one q k stands is) (here (box_of now) (still same))
+      by k q stands among front (inr differs) = passing.closed k q stands (one_among back (length posts) i m k comes among differs) front
+
+      as_before : (last ≡ i) ⊎ (count_of (box_of now) < count_of (box_of old)) → (last + 1 ≡ i + 1) ⊎ (count_of (box_of new) < count_of (box_of old))
+      as_before (inl is) = inl (omega (arith, is))
+      as_before (inr less) = inr (let count = ap count_of same in omega (arith, less, count))
+
+  now_fewer : new.moved ≡ true → count_of (box_of new) < count_of (box_of old)
+  now_fewer moved = let less = some_gone (at_rest now) new refl moved (noted step.loses) in let was = passing.onward.no_more in omega (arith, less, was)
+
+  -- a value went, and the sets are closed under the one that passed
+  one_settled : new.moved ≡ true → ClosedUnder (vars_of now) p (box_of new) → Passing back posts old new (i + 1) 1
+  one_settled moved settled = record {
+    onward = one_onward passing.onward at step;
+    within = omega (arith, below);
+    few = omega arith;
+    closed = λ k q stands among front.
+        subst (λ r. ClosedUnder (vars_of old) r (box_of new)) (the_one q k stands (only_one back (length posts) i m k comes among (λ before. front (subst (λ n. IsAmong back (length posts) n k) less before)))) (here (box_of new) settled);
+    fewer = inr (now_fewer moved);
+  }
+    where
+      less : i ≡ (i + 1) - 1
+      less = omega arith
+
+  -- or maybe not
+  none_settled : new.moved ≡ true → Passing back posts old new (i + 1) 0
+  none_settled moved = record {
+    onward = one_onward passing.onward at step;
+    within = omega (arith, below);
+    few = omega arith;
+    closed = λ k q stands among front. absurd (front (subst (λ n. IsAmong back (length posts) n k) less among));
+    fewer = inr (now_fewer moved);
+  }
+    where
+      less : i + 1 ≡ (i + 1) - 0
+      less = omega arith
+
+  pub passed : (moved settles : Bool) → new.moved ≡ moved → (settles ≡ true → ClosedUnder (vars_of now) p (box_of new)) → Passing back posts old new (i + 1) (closed_last moved settles last)
+  passed false settles is settled = one_at_rest is
+  passed true true is settled = one_settled is (settled refl)
+  passed true false is settled = none_settled is
+
+-- at the end the sets are closed under the first ones in the other direction
+pub first_closed : {back : Bool} {posts : List Posted} {old now : Context} {i last : ℕ} → Passing back posts old now i last → length posts ≤ i → FirstClosed (not back) (vars_of old) posts last (box_of now)
+first_closed {back = back} {posts = posts} {old = old} {now = now} {i = i} {last = last} passing le k p at among =
+    let within = slice_get_within posts k p at in
+    let all = passing.within in
+    let few = passing.few in
+    let end : length posts ≡ i = omega (arith, all, le) in
+    passing.closed k p at (subst (λ n. IsAmong back (length posts) n k) end (all_among back (length posts) k within))
+    (λ front. turned_round back (length posts) last k within (omega (arith, few, all)) among (subst (λ n. IsAmong back (length posts) (n - last) k) (sym end) front))
+
+-- the one at a place is ready
+pub is_ready : {posts : List Posted} {vars now_vars : List Variable} {m : ℕ} {p : Posted} → now_vars ≡ vars → AreReady vars posts → slice_get posts m ≡ Some p → IsReadyToRun now_vars p
+is_ready {posts = posts} {vars = vars} {now_vars = now_vars} {m = m} {p = p} same ready at = subst (λ v. IsReadyToRun v p) (sym same) (all_at (IsReadyToRun vars) posts m p ready at)
+
+-- ---- rounds
+
+-- rounds took values alone so far, and the sets are closed under the first of the propagators, which stand as they were
+-- posted
+pub record Rounds (back : Bool) (posts now_posts : List Posted) (old now : Context) (closed : ℕ) : Type 0 where
+  pub posted : now_posts ≡ posts
+  pub onward : Onward posts old now
+  pub within : closed ≤ length posts
+  pub first : FirstClosed back (vars_of old) posts closed (box_of now)
+
+pub no_round : (back : Bool) (posts : List Posted) (c : Context) → Rounds back posts posts c c 0
+no_round back posts c = record { posted = refl; onward = onward_itself posts c; within = omega arith; first = λ k p at among. absurd (none back k (slice_get_within posts k p at) among) }
+  where
+    none : (b : Bool) (k : ℕ) → k < length posts → IsAmong b (length posts) 0 k → ⊥
+    none false k within among = omega (arith, among)
+    none true k within among = omega (arith, within, among)
+
+module _ {back : Bool} {posts now_posts : List Posted} {old now new : Context} {closed : ℕ} (rounds : Rounds back posts now_posts old now closed) where
+  same_vars : vars_of now ≡ vars_of old
+  same_vars = taken_vars rounds.onward.takes
+
+  pub ready_again : AreReady (vars_of old) posts → AreReady (vars_of now) now_posts
+  ready_again ready = subst (λ vars. AreReady vars now_posts) (sym same_vars) (subst (AreReady (vars_of old)) (sym rounds.posted) ready)
+
+  pub closed_again : FirstClosed back (vars_of now) now_posts closed (box_of now)
+  closed_again = subst (λ vars. FirstClosed back vars now_posts closed (box_of now)) (sym same_vars) (subst (λ ps. FirstClosed back (vars_of old) ps closed (box_of now)) (sym rounds.posted) rounds.first)
+
+  -- what another round says, of the variables and the propagators of before
+  sound_again : Keeps (vars_of now) (ClosedEach (vars_of now) now_posts) (box_of now) (box_of new) → Keeps (vars_of old) (ClosedEach (vars_of old) posts) (box_of old) (box_of new)
+  sound_again sound box is i closed =
+      sound box (subst (λ vars. IsBox vars box) (sym same_vars) is) (rounds.onward.sound box is i closed) (subst (λ vars. ClosedEach vars now_posts box) (sym same_vars) (subst (λ ps. ClosedEach (vars_of old) ps box) (sym rounds.posted) closed))
+
+  first_again : {last : ℕ} → FirstClosed (not back) (vars_of now) now_posts last (box_of new) → FirstClosed (not back) (vars_of old) posts last (box_of new)
+  first_again {last = last} first = subst (λ ps. FirstClosed (not back) (vars_of old) ps last (box_of new)) rounds.posted (subst (λ vars. FirstClosed (not back) vars now_posts last (box_of new)) same_vars first)
+
+  pub one_round : {new_posts : List Posted} {last : ℕ} → new_posts ≡ now_posts → OnlyTakes now new → Keeps (vars_of now) (ClosedEach (vars_of now) now_posts) (box_of now) (box_of new) → last ≤ length now_posts → FirstClosed (not back) (vars_of now) now_posts last (box_of new)
+      → count_of (box_of new) < count_of (box_of now) → Rounds (not back) posts new_posts old new last
+  one_round {new_posts = new_posts} {last = last} posted takes sound within first fewer = record {
+    posted = posted ∙ rounds.posted;
+    onward = record { takes = taken_through rounds.onward.takes takes; sound = sound_again sound; no_more = let few = rounds.onward.no_more in omega (arith, few, fewer) };
+    within = subst (λ ps. last ≤ length ps) rounds.posted within;
+    first = first_again first;
+  }
+
+  pub last_round : {last : ℕ} → IsBox (vars_of old) (box_of old) → OnlyTakes now new → Keeps (vars_of now) (ClosedEach (vars_of now) now_posts) (box_of now) (box_of new) → last ≡ length now_posts → FirstClosed (not back) (vars_of now) now_posts last (box_of new)
+      → IsSettled (vars_of old) posts (box_of old) (box_of new)
+  last_round {last = last} is takes sound whole first =
+      let all = taken_through rounds.onward.takes takes in
+      record {
+        lawful = subst (λ vars. IsBox vars (box_of new)) (taken_vars all) (all.boxes is);
+        closed = all_from (λ p. ClosedUnder (vars_of old) p (box_of new)) posts (λ k p at. first_again first k p at (subst (λ n. IsAmong (not back) (length posts) n k) (sym (whole ∙ ap length rounds.posted)) (all_among (not back) (length posts) k (slice_get_within posts k p at))));
+        kept = sound_again sound;
+      }
+
+  pub no_more_rounds : NoneHas (vars_of now) (ClosedEach (vars_of now) now_posts) (box_of now) → NoneHas (vars_of old) (ClosedEach (vars_of old) posts) (box_of old)
+  no_more_rounds none box is i closed =
+      none box (subst (λ vars. IsBox vars box) (sym same_vars) is) (rounds.onward.sound box is i closed) (subst (λ vars. ClosedEach vars now_posts box) (sym same_vars) (subst (λ ps. ClosedEach (vars_of old) ps box) (sym rounds.posted) closed))

@@ -1,5 +1,5 @@
 -- The values at the places of a constraint, part by part.
-use Rattle.std.proofs.Common.{◌≡◌, ◌↔◌, ℕ, ◌+◌, ℤ, List, [], ◌∷◌, ◌++◌, length, refl, sym, ap, subst, ◌∙◌}
+use Rattle.std.proofs.Common.{◌≡◌, ◌↔◌, ℕ, ℤ, List, [], ◌∷◌, ◌++◌, length, refl, sym, ap, subst, ◌∙◌}
 use Rattle.mn_model.specs.declared.constraint.Term.{Term}
 use Rattle.mn_model.proofs.Sizes.{suc_plus_one}
 use Rattle.mn_meaning.specs.Meaning.{at, front, behind, last, rest, values_at, value_of}

@@ -14,6 +14,7 @@ pub mod Plain
 pub mod Quotients
 pub mod Records
 pub mod Repeats
+pub mod Rounded
 pub mod Rows
 pub mod Solving
 pub mod Told

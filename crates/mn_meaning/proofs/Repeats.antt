@@ -4,9 +4,11 @@ use Rattle.std.proofs.lemmas.Bool.Decides.{nat_tests}
 use Rattle.std.proofs.lemmas.List.{take_rest}
 use Rattle.std.specs.List.{AllByRecursion}
 use Rattle.std.specs.Ordering.{int_eq}
+use Rattle.mn_model.specs.Decided.{Decided}
 use Rattle.mn_model.specs.Domain.{Has}
 use Rattle.mn_model.specs.declared.constraint.Term.{Term}
-use Rattle.mn_meaning.specs.Families.{occurrences, distinct_count, AllDiffer}
+use Rattle.mn_meaning.specs.Families.{occurrences, distinct_count, AllDiffer, decide_has}
+use Rattle.mn_meaning.specs.Laws.{DistinctAreCounted, IsOnceOf}
 use Rattle.mn_meaning.specs.Meaning.{values_at}
 use Rattle.mn_meaning.proofs.Places.{int_eq-same, int_eq-other}
 
@@ -61,3 +63,29 @@ module _ (a : ℤ) (here rest : List ℤ) (next : here ≡ a ∷ rest) where
 
   pub distinct_count-last : (Has rest a → ⊥) → distinct_count here ≡ 1 + distinct_count rest
   distinct_count-last none = ap distinct_count next ∙ ap (λ (n : ℕ). (if nat_lt 0 n then 0 else 1) + distinct_count rest) (absent a rest none)
+
+-- a list with the same values, each once, and as many as are counted
+abbrev Counted : List ℤ → Type 0
+Counted values = (once : List ℤ) × IsOnceOf values once × (distinct_count values ≡ length once)
+
+counted_on : (b : ℤ) (values : List ℤ) → Decided (Has values b) → Counted values → Counted (b ∷ values)
+counted_on b values (inl again) (once, is, count) = (
+  once,
+  record {
+    distinct = is.distinct;
+    same = λ a. (λ has. inr ((is.same a).0 has), λ has. ⊎_elim (λ e. (is.same a).1 (subst (Has values) e again)) (is.same a).1 has);
+  },
+  distinct_count-again b (b ∷ values) values refl again ∙ omega (arith, count),
+)
+counted_on b values (inr none) (once, is, count) = (
+  b ∷ once,
+  record {
+    distinct = (all_other b once (λ has. none ((is.same b).0 has)), is.distinct);
+    same = λ a. (⊎_elim inl (λ has. inr ((is.same a).0 has)), ⊎_elim inl (λ has. inr ((is.same a).1 has)));
+  },
+  distinct_count-last b (b ∷ values) values refl none ∙ omega (arith, count),
+)
+
+pub distinct_counted : DistinctAreCounted
+distinct_counted [] = ([], record { distinct = tt; same = λ a. (λ has. has, λ has. has) }, refl)
+distinct_counted (b ∷ values) = counted_on b values (decide_has values b) (distinct_counted values)

@@ -4,6 +4,7 @@ ghost use Rattle.mn_meaning.specs.Laws.{
   AssignmentsAreAll,
   AssignmentsAreDistinct,
   AssignmentsAreOrdered,
+  DistinctAreCounted,
   LawfulBitsAreBits,
   LawfulDomainsAscend,
   LawfulIsMeant,
@@ -15,9 +16,12 @@ ghost use Rattle.mn_meaning.specs.Laws.{
   NegationIsMeant,
   NegationIsShaped,
   PlainOrder,
+  QuotientRoundsDown,
+  QuotientRoundsDownBelow,
   RecordsAreOwed,
   RecordsImprove,
   RecordsReachTheBest,
+  RemainderIsSmall,
   SearchOrderIsDistinct,
   SearchOrderIsWhole,
   SolutionsAreDistinct,
@@ -82,4 +86,16 @@ pub fn negations_are_meant()
     ensures negation { NegationIsMeant }
     ensures shaped { NegationIsShaped }
     ensures tables { NegationHasTheTables }
+{}
+
+/// A quotient is rounded down, also where the divisor is negative, and what it leaves lies between 0 and the divisor.
+pub fn quotients_are_rounded_down()
+    ensures above { QuotientRoundsDown }
+    ensures below { QuotientRoundsDownBelow }
+    ensures remainder { RemainderIsSmall }
+{}
+
+/// The count of distinct values is the length of a list that has the same values, each once.
+pub fn distinct_values_are_counted()
+    ensures { DistinctAreCounted }
 {}

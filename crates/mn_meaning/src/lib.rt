@@ -18,8 +18,9 @@ mod tests;
 mod values;
 
 pub use laws::{
-    assignments_are_all, lawful_problems_are_fit, negations_are_meant, negations_hold_where_not,
-    records_are_owed, search_order_is_whole, solutions_are_those_that_hold, without_an_order,
+    assignments_are_all, distinct_values_are_counted, lawful_problems_are_fit, negations_are_meant,
+    negations_hold_where_not, quotients_are_rounded_down, records_are_owed, search_order_is_whole,
+    solutions_are_those_that_hold, without_an_order,
 };
 pub use meaning::{checks, holds, holds_beside, holds_over};
 pub use values::{Assigned, Values, value_at};

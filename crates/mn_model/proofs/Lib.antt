@@ -10,6 +10,7 @@ pub mod NameParts
 pub mod Named
 pub mod Near
 pub mod Ordered
+pub mod Placed
 pub mod Sizes
 pub mod Stretches
 pub mod Variables

@@ -6,5 +6,7 @@ pub mod Members
 pub mod Name
 pub mod Negation
 pub mod Parts
+pub mod Places
 pub mod Problem
+pub mod Sets
 pub mod Variable

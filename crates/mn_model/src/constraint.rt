@@ -16,7 +16,6 @@ pub enum Term {
 /// holds: in that order x, y, z and r are its terms, v and w its vectors, k and k2 its numbers, ks its list of
 /// numbers and C the constraint inside. In an instance two lists that are compared place by place are as long as
 /// each other.
-#[derive(Debug)]
 #[cycle(con)]
 pub enum Con {
     /// x = y.
@@ -118,7 +117,6 @@ pub enum Con {
 }
 
 /// The children of a nested form, in order.
-#[derive(Debug)]
 #[cycle(con)]
 pub enum Cons {
     /// No more children.

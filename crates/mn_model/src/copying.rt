@@ -2,7 +2,7 @@ ghost use Rattle.std.specs.Prelude.{◌≡◌, IfOk};
 ghost use Rattle.mn_model.specs.Negation.{followed_by};
 ghost use Rattle.mn_model.specs.declared.constraint.Con.TheVariants.{End};
 
-use super::{Alias, Con, Cons, Decl, Order, Print, Sequence, Tab, Terms, Tuples};
+use super::{Alias, Con, Cons, Decl, Ints, Order, Print, Sequence, Tab, Term, Terms, Tuples};
 use sqlite_items::Boxed;
 use std::alloc::{AllocError, Global};
 
@@ -33,6 +33,76 @@ pub(crate) fn copy_of_each<T: Copies>(
     Ok(Sequence::of(copy_all(alloc, items.as_slice())?))
 }
 
+// A copy of a vector with what stands behind it, as one form.
+pub(crate) fn with_one<A: Copy, F: FnOnce(Terms, A) -> Con>(
+    make: F,
+    v: &Terms,
+    a: A,
+) -> Result<Con, AllocError>
+    requires { F.IsAlwaysCallable make }
+    ensures { IfOk result (λ con. F.post make v.now a con) }
+{
+    Ok(make(v.copy()?, a))
+}
+
+pub(crate) fn with_two<A: Copy, B: Copy, F: FnOnce(Terms, A, B) -> Con>(
+    make: F,
+    v: &Terms,
+    a: A,
+    b: B,
+) -> Result<Con, AllocError>
+    requires { F.IsAlwaysCallable make }
+    ensures { IfOk result (λ con. F.post make v.now a b con) }
+{
+    Ok(make(v.copy()?, a, b))
+}
+
+// Copies of two vectors, as one form.
+pub(crate) fn of_two<F: FnOnce(Terms, Terms) -> Con>(
+    make: F,
+    v: &Terms,
+    w: &Terms,
+) -> Result<Con, AllocError>
+    requires { F.IsAlwaysCallable make }
+    ensures { IfOk result (λ con. F.post make v.now w.now con) }
+{
+    Ok(make(v.copy()?, w.copy()?))
+}
+
+fn weighted<F: FnOnce(Ints, Terms, Term) -> Con>(
+    make: F,
+    ks: &Ints,
+    v: &Terms,
+    x: Term,
+) -> Result<Con, AllocError>
+    requires { F.IsAlwaysCallable make }
+    ensures { IfOk result (λ con. F.post make ks.now v.now x con) }
+{
+    Ok(make(ks.copy()?, v.copy()?, x))
+}
+
+pub(crate) fn tabled<F: FnOnce(Terms, Tab) -> Con>(
+    make: F,
+    v: &Terms,
+    tab: &Tab,
+) -> Result<Con, AllocError>
+    requires { F.IsAlwaysCallable make }
+    ensures { IfOk result (λ con. F.post make v.now tab.now con) }
+{
+    Ok(make(v.copy()?, tab.copy()?))
+}
+
+pub(crate) fn in_set<F: FnOnce(Term, Ints) -> Con>(
+    make: F,
+    x: Term,
+    ks: &Ints,
+) -> Result<Con, AllocError>
+    requires { F.IsAlwaysCallable make }
+    ensures { IfOk result (λ con. F.post make x ks.now con) }
+{
+    Ok(make(x, ks.copy()?))
+}
+
 impl Con {
     /// An equal constraint. Calls stand inside one another as deep as forms do.
     #[cycle(copying)]
@@ -50,37 +120,37 @@ impl Con {
             Con::Product(x, y, z) => Ok(Con::Product(*x, *y, *z)),
             Con::Div(x, y, z) => Ok(Con::Div(*x, *y, *z)),
             Con::Modulo(x, y, z) => Ok(Con::Modulo(*x, *y, *z)),
-            Con::Max(v, x) => Ok(Con::Max(v.copy()?, *x)),
-            Con::Min(v, x) => Ok(Con::Min(v.copy()?, *x)),
-            Con::Sumleq(v, x) => Ok(Con::Sumleq(v.copy()?, *x)),
-            Con::Sumgeq(v, x) => Ok(Con::Sumgeq(v.copy()?, *x)),
-            Con::Weightedsumleq(ks, v, x) => Ok(Con::Weightedsumleq(ks.copy()?, v.copy()?, *x)),
-            Con::Weightedsumgeq(ks, v, x) => Ok(Con::Weightedsumgeq(ks.copy()?, v.copy()?, *x)),
-            Con::Watchsumleq(v, k) => Ok(Con::Watchsumleq(v.copy()?, *k)),
-            Con::Watchsumgeq(v, k) => Ok(Con::Watchsumgeq(v.copy()?, *k)),
+            Con::Max(v, x) => with_one(Con::Max, v, *x),
+            Con::Min(v, x) => with_one(Con::Min, v, *x),
+            Con::Sumleq(v, x) => with_one(Con::Sumleq, v, *x),
+            Con::Sumgeq(v, x) => with_one(Con::Sumgeq, v, *x),
+            Con::Weightedsumleq(ks, v, x) => weighted(Con::Weightedsumleq, ks, v, *x),
+            Con::Weightedsumgeq(ks, v, x) => weighted(Con::Weightedsumgeq, ks, v, *x),
+            Con::Watchsumleq(v, k) => with_one(Con::Watchsumleq, v, *k),
+            Con::Watchsumgeq(v, k) => with_one(Con::Watchsumgeq, v, *k),
             Con::Litsumgeq(v, ks, k) => Ok(Con::Litsumgeq(v.copy()?, ks.copy()?, *k)),
-            Con::Element(v, x, y) => Ok(Con::Element(v.copy()?, *x, *y)),
-            Con::Watchelement(v, x, y) => Ok(Con::Watchelement(v.copy()?, *x, *y)),
-            Con::ElementOne(v, x, y) => Ok(Con::ElementOne(v.copy()?, *x, *y)),
-            Con::WatchelementOne(v, x, y) => Ok(Con::WatchelementOne(v.copy()?, *x, *y)),
-            Con::Table(v, tab) => Ok(Con::Table(v.copy()?, tab.copy()?)),
-            Con::Negativetable(v, tab) => Ok(Con::Negativetable(v.copy()?, tab.copy()?)),
+            Con::Element(v, x, y) => with_two(Con::Element, v, *x, *y),
+            Con::Watchelement(v, x, y) => with_two(Con::Watchelement, v, *x, *y),
+            Con::ElementOne(v, x, y) => with_two(Con::ElementOne, v, *x, *y),
+            Con::WatchelementOne(v, x, y) => with_two(Con::WatchelementOne, v, *x, *y),
+            Con::Table(v, tab) => tabled(Con::Table, v, tab),
+            Con::Negativetable(v, tab) => tabled(Con::Negativetable, v, tab),
             Con::Alldiff(v) => Ok(Con::Alldiff(v.copy()?)),
-            Con::Lexleq(v, w) => Ok(Con::Lexleq(v.copy()?, w.copy()?)),
-            Con::Lexless(v, w) => Ok(Con::Lexless(v.copy()?, w.copy()?)),
-            Con::Watchvecneq(v, w) => Ok(Con::Watchvecneq(v.copy()?, w.copy()?)),
+            Con::Lexleq(v, w) => of_two(Con::Lexleq, v, w),
+            Con::Lexless(v, w) => of_two(Con::Lexless, v, w),
+            Con::Watchvecneq(v, w) => of_two(Con::Watchvecneq, v, w),
             Con::Hamming(v, w, k) => Ok(Con::Hamming(v.copy()?, w.copy()?, *k)),
-            Con::Occurrence(v, k, x) => Ok(Con::Occurrence(v.copy()?, *k, *x)),
-            Con::Occurrenceleq(v, k, k2) => Ok(Con::Occurrenceleq(v.copy()?, *k, *k2)),
-            Con::Occurrencegeq(v, k, k2) => Ok(Con::Occurrencegeq(v.copy()?, *k, *k2)),
-            Con::Nvalueleq(v, x) => Ok(Con::Nvalueleq(v.copy()?, *x)),
+            Con::Occurrence(v, k, x) => with_two(Con::Occurrence, v, *k, *x),
+            Con::Occurrenceleq(v, k, k2) => with_two(Con::Occurrenceleq, v, *k, *k2),
+            Con::Occurrencegeq(v, k, k2) => with_two(Con::Occurrencegeq, v, *k, *k2),
+            Con::Nvalueleq(v, x) => with_one(Con::Nvalueleq, v, *x),
             Con::WLiteral(x, k) => Ok(Con::WLiteral(*x, *k)),
             Con::WNotliteral(x, k) => Ok(Con::WNotliteral(*x, *k)),
-            Con::WInset(x, ks) => Ok(Con::WInset(*x, ks.copy()?)),
-            Con::WNotinset(x, ks) => Ok(Con::WNotinset(*x, ks.copy()?)),
+            Con::WInset(x, ks) => in_set(Con::WInset, *x, ks),
+            Con::WNotinset(x, ks) => in_set(Con::WNotinset, *x, ks),
             Con::WInrange(x, k, k2) => Ok(Con::WInrange(*x, *k, *k2)),
             Con::WNotinrange(x, k, k2) => Ok(Con::WNotinrange(*x, *k, *k2)),
-            Con::WInintervalset(x, ks) => Ok(Con::WInintervalset(*x, ks.copy()?)),
+            Con::WInintervalset(x, ks) => in_set(Con::WInintervalset, *x, ks),
             Con::Always => Ok(Con::Always),
             Con::Never => Ok(Con::Never),
             Con::WatchedOr(children) => Ok(Con::WatchedOr(children.copy(alloc)?)),

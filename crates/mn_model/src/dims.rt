@@ -2,16 +2,16 @@ ghost use Rattle.std.specs.Prelude.{◌≡◌, ◌≤◌, ◌<◌, ◌^◌, IfSo
 ghost use Rattle.std.specs.List.{AllByRecursion};
 ghost use Rattle.mn_model.specs.Problem.{offset_from, size_of_dims};
 
-use super::{Dims, VARIABLES};
+use super::VARIABLES;
 
 /// How many places a matrix of these dimensions has.
-pub fn size_of(dims: &Dims) -> usize
+pub fn size_of(dims: &[u32]) -> usize
     requires shaped { AllByRecursion (λ dim. 1 ≤ dim) dims.now }
     requires few { size_of_dims dims.now ≤ VARIABLES }
     ensures { result ≡ size_of_dims dims.now }
 {
     let mut size: usize = 1;
-    for dim in dims.as_slice() {
+    for dim in dims {
         size *= *dim as usize;
     }
     size

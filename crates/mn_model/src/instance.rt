@@ -1,5 +1,6 @@
 ghost use Rattle.std.specs.Prelude.{◌≡◌, ◌+◌, ◌<◌, ◌≤◌, [], ◌∷◌, ◌++◌, length, slice_get, None, Some, IfOk, IfSome, OnOk, OnErr};
 ghost use Rattle.std.specs.List.{AllByRecursion};
+ghost use Rattle.mn_model.specs.Index.{entries_read};
 ghost use Rattle.mn_model.specs.Name.{IsName};
 ghost use Rattle.mn_model.specs.Problem.{size_of_dims, variable_in, variable_through};
 ghost use Rattle.mn_model.specs.Variable.{number_of};
@@ -122,7 +123,7 @@ impl Instance {
         domain.lawful();
         let first = VarId::new(self.owners.len() as u32);
         let place = self.decls.len();
-        let size = size_of(&dims);
+        let size = size_of(dims.as_slice());
         let key = string_of(*self.owners.allocator(), name.as_slice())?;
         self.owners.reserve(size)?;
         self.decls.reserve(1)?;
@@ -356,20 +357,63 @@ impl Instance {
         ensures { IfOk result (λ copy. copy ≡ self.now) }
     {
         let alloc = *self.decls.allocator();
+        let (decls, aliases, tuples) = self.declared_copy(alloc)?;
+        let (names, lists, owners) = copy_of_index(&self.names, &self.lists, &self.owners)?;
+        let (cons, order, print) = self.asked_copy(alloc)?;
         Ok(Instance {
-            decls: copy_all(alloc, self.decls.as_slice())?,
-            aliases: copy_all(alloc, self.aliases.as_slice())?,
-            names: self.names.clone()?,
-            owners: Vec::from_slice(alloc, self.owners.as_slice())?,
-            tuples: copy_all(alloc, self.tuples.as_slice())?,
-            lists: self.lists.clone()?,
-            cons: copy_of_each(alloc, &self.cons)?,
+            decls,
+            aliases,
+            names,
+            owners,
+            tuples,
+            lists,
+            cons,
             cells: self.cells,
-            order: self.order.copy()?,
+            order,
             goal: self.goal,
-            print: self.print.copy(alloc)?,
+            print,
         })
     }
+
+    /// Equal declarations, aliases and tuple lists.
+    fn declared_copy(
+        &self,
+        alloc: Global,
+    ) -> Result<(Vec<Decl>, Vec<Alias>, Vec<Tuples>), AllocError>
+        ensures { IfOk result (λ copy. (copy.0.items ≡ self.now.decls) × (copy.1.items ≡ self.now.aliases) × (copy.2.items ≡ self.now.tuples)) }
+    {
+        let decls = copy_all(alloc, self.decls.as_slice())?;
+        let aliases = copy_all(alloc, self.aliases.as_slice())?;
+        let tuples = copy_all(alloc, self.tuples.as_slice())?;
+        Ok((decls, aliases, tuples))
+    }
+
+    /// Equal constraints, an equal order and what is printed.
+    fn asked_copy(&self, alloc: Global) -> Result<(Sequence<Con>, Order, Print), AllocError>
+        ensures { IfOk result (λ copy. (copy.0 ≡ self.now.cons) × (copy.1 ≡ self.now.order) × (copy.2 ≡ self.now.print)) }
+    {
+        let cons = copy_of_each(alloc, &self.cons)?;
+        let order = self.order.copy()?;
+        let print = self.print.copy(alloc)?;
+        Ok((cons, order, print))
+    }
+}
+
+// What an instance finds names and declarations by: the two maps and the owners.
+type Index = (IndexMap<String, Entry>, IndexMap<String, usize>, Vec<u32>);
+
+// An equal index.
+fn copy_of_index(
+    names: &IndexMap<String, Entry>,
+    lists: &IndexMap<String, usize>,
+    owners: &Vec<u32>,
+) -> Result<Index, AllocError>
+    ensures { IfOk result (λ copy. (entries_read copy.0.entries ≡ entries_read names.now.entries) × (entries_read copy.1.entries ≡ entries_read lists.now.entries) × (copy.2.items ≡ owners.now.items)) }
+{
+    let names = names.clone()?;
+    let lists = lists.clone()?;
+    let owners = Vec::from_slice(*owners.allocator(), owners.as_slice())?;
+    Ok((names, lists, owners))
 }
 
 // The variable that a declaration has at the indices.

@@ -19,6 +19,7 @@ mod instance;
 mod limits;
 mod name;
 mod negation;
+mod placing;
 mod refusal;
 mod search;
 mod sequence;
@@ -29,6 +30,7 @@ mod variable;
 
 pub use constraint::{Con, Cons, Tab, Term};
 pub use declaration::{Alias, Decl, Tuples};
+pub use dims::size_of;
 pub use domain::Domain;
 pub use instance::Instance;
 pub use limits::{

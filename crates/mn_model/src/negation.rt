@@ -1,8 +1,9 @@
 ghost use Rattle.std.specs.Prelude.{◌≡◌, IfOk, ◌++◌, ◌∷◌, [], pos, negsuc, replicate};
 ghost use Rattle.mn_model.specs.Lawful.{HasNearConstants, HaveNearConstants, IsNearTerm};
-ghost use Rattle.mn_model.specs.Negation.{negation, negations, more, negated, reified, other, at_least_above, at_most_below};
+ghost use Rattle.mn_model.specs.Negation.{negation, negations, more, negated, ones, reified, other, at_least_above, at_most_below};
 ghost use Rattle.mn_model.specs.declared.constraint.Con.TheVariants.{WatchedAnd, WLiteral, End};
 
+use super::copying::{in_set, of_two, tabled, with_one, with_two};
 use super::{Con, Cons, Ints, Term, Terms};
 use sqlite_items::Boxed;
 use std::alloc::{AllocError, Global};
@@ -19,22 +20,22 @@ pub fn reverse(alloc: Global, con: &Con) -> Result<Con, AllocError>
         Con::Diseq(x, y) => Ok(Con::Eq(*x, *y)),
         Con::Ineq(x, y, k) => Ok(Con::Ineq(*y, *x, -*k - 1)),
         Con::Watchless(x, y) => Ok(Con::Ineq(*y, *x, 0)),
-        Con::Sumleq(v, x) => at_least_above(&ones(alloc, v.len())?, v, *x),
-        Con::Sumgeq(v, x) => at_most_below(&ones(alloc, v.len())?, v, *x),
+        Con::Sumleq(v, x) => sum_above(alloc, v, *x),
+        Con::Sumgeq(v, x) => sum_below(alloc, v, *x),
         Con::Weightedsumleq(ks, v, x) => at_least_above(ks, v, *x),
         Con::Weightedsumgeq(ks, v, x) => at_most_below(ks, v, *x),
-        Con::Watchsumleq(v, k) => Ok(Con::Watchsumgeq(v.copy()?, *k + 1)),
-        Con::Watchsumgeq(v, k) => Ok(Con::Watchsumleq(v.copy()?, *k - 1)),
-        Con::Occurrenceleq(v, k, k2) => Ok(Con::Occurrencegeq(v.copy()?, *k, *k2 + 1)),
-        Con::Occurrencegeq(v, k, k2) => Ok(Con::Occurrenceleq(v.copy()?, *k, *k2 - 1)),
-        Con::Table(v, tab) => Ok(Con::Negativetable(v.copy()?, tab.copy()?)),
-        Con::Negativetable(v, tab) => Ok(Con::Table(v.copy()?, tab.copy()?)),
-        Con::Lexleq(v, w) => Ok(Con::Lexless(w.copy()?, v.copy()?)),
-        Con::Lexless(v, w) => Ok(Con::Lexleq(w.copy()?, v.copy()?)),
+        Con::Watchsumleq(v, k) => with_one(Con::Watchsumgeq, v, *k + 1),
+        Con::Watchsumgeq(v, k) => with_one(Con::Watchsumleq, v, *k - 1),
+        Con::Occurrenceleq(v, k, k2) => with_two(Con::Occurrencegeq, v, *k, *k2 + 1),
+        Con::Occurrencegeq(v, k, k2) => with_two(Con::Occurrenceleq, v, *k, *k2 - 1),
+        Con::Table(v, tab) => tabled(Con::Negativetable, v, tab),
+        Con::Negativetable(v, tab) => tabled(Con::Table, v, tab),
+        Con::Lexleq(v, w) => of_two(Con::Lexless, w, v),
+        Con::Lexless(v, w) => of_two(Con::Lexleq, w, v),
         Con::WLiteral(x, k) => Ok(Con::WNotliteral(*x, *k)),
         Con::WNotliteral(x, k) => Ok(Con::WLiteral(*x, *k)),
-        Con::WInset(x, ks) => Ok(Con::WNotinset(*x, ks.copy()?)),
-        Con::WNotinset(x, ks) => Ok(Con::WInset(*x, ks.copy()?)),
+        Con::WInset(x, ks) => in_set(Con::WNotinset, *x, ks),
+        Con::WNotinset(x, ks) => in_set(Con::WInset, *x, ks),
         Con::WInrange(x, k, k2) => Ok(Con::WNotinrange(*x, *k, *k2)),
         Con::WNotinrange(x, k, k2) => Ok(Con::WInrange(*x, *k, *k2)),
         Con::Always => Ok(Con::Never),
@@ -122,6 +123,19 @@ fn ones(alloc: Global, count: usize) -> Result<Ints, AllocError>
     ensures { IfOk result (λ ks. ks ≡ replicate count (pos 1)) }
 {
     Ok(Ints::of(vec![in alloc; 1; count]?))
+}
+
+// The same of a vector whose entries all have the weight 1.
+fn sum_above(alloc: Global, v: &Terms, x: Term) -> Result<Con, AllocError>
+    ensures { IfOk result (λ con. con ≡ at_least_above (ones v.now) v.now x) }
+{
+    at_least_above(&ones(alloc, v.len())?, v, x)
+}
+
+fn sum_below(alloc: Global, v: &Terms, x: Term) -> Result<Con, AllocError>
+    ensures { IfOk result (λ con. con ≡ at_most_below (ones v.now) v.now x) }
+{
+    at_most_below(&ones(alloc, v.len())?, v, x)
 }
 
 // The sum of a vector less x is at least 1.

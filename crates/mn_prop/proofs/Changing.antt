@@ -1,25 +1,28 @@
 -- What a change of a variable's set is at a place.
-use Rattle.std.proofs.Common.{◌≡◌, ℤ, pos, ◌-ℤ◌, inl, inr, Bool, true, false, int_le, not, List, [], ◌∷◌, filter, Result, Ok, Err, refl, sym, subst, ap, ◌∙◌, arith, true≢false}
+use Rattle.std.proofs.Common.{◌≡◌, ◌≢◌, ◌↔◌, IsTrue, ℕ, zero, suc, ◌<◌, ◌≤◌, ◌⊎◌, ℤ, pos, ◌-ℤ◌, inl, inr, Bool, true, false, int_le, not, List, [], ◌∷◌, length, filter, Result, Ok, Err, refl, sym, subst, ap, ◌∙◌, arith, true≢false}
 use Rattle.std.proofs.lemmas.Int.{ints}
 use Rattle.std.specs.Ordering.{int_eq}
 use Rattle.std.specs.Prelude.{slice_set}
 use Rattle.mn_meaning.proofs.Places.{int_eq-other}
 use Rattle.mn_model.specs.Domain.{Has, IsValue}
 use Rattle.mn_model.specs.Variable.{number_of}
+use Rattle.mn_model.specs.declared.constraint.Term.{Term}
 use Rattle.mn_model.specs.declared.constraint.Term.TheVariants.{Var, Const, Not}
 use Rattle.mn_model.specs.declared.variable.VarId.{VarId}
 use Rattle.mn_model.proofs.Filtered.{filter_has, has_filter}
 use Rattle.mn_model.proofs.Ordered.{le_true}
-use Rattle.mn_boxes.specs.Boxes.{set_of}
+use Rattle.mn_boxes.specs.Boxes.{IsBox, count_of, set_of}
 use Rattle.mn_boxes.specs.Sets.{MayGo, Variable}
 use Rattle.mn_boxes.specs.declared.change.Moved.{Moved}
-use Rattle.mn_domains.specs.Changes.{Changed, is_not}
+use Rattle.mn_domains.specs.Changes.{Changed, is_not, kept, with_sets}
 use Rattle.mn_domains.specs.Sets.{Sets}
 use Rattle.mn_domains.specs.declared.doms.Emptied.{Emptied}
 use Rattle.mn_domains.proofs.Filtered.{filter_alike, eq_so, eq_true}
-use Rattle.mn_prop.specs.Contexts.{ChangedAt, Context, IsAnswer, IsAnswerIf, IsTurned}
+use Rattle.mn_prop.specs.Contexts.{ChangedAt, Context, IsAnswer, IsAnswerIf, IsChange, IsTurned, Notes, SomePasses, box_of, kept_at, noted_if, vars_of}
 use Rattle.mn_prop.specs.declared.context.Fail.{Fail}
+use Rattle.mn_prop.proofs.Boxing.{all_kept, all_left, count_kept, few_left}
 use Rattle.mn_prop.proofs.PlaceLemmas.{back}
+use Rattle.mn_prop.proofs.Stepping.{nothing_noted}
 
 -- some member passes where not none is left
 pub some_left : (p : ℤ → Bool) (xs : List ℤ) → (filter p xs ≡ [] → ⊥) → (a : ℤ) × Has xs a × (p a ≡ true)
@@ -37,33 +40,70 @@ none_left p xs a none has = by (p a) refl
     by true e = absurd (subst (λ ys. Has ys a) none (filter_has p xs a has e))
     by false e = refl
 
--- a change of a variable's set is one of its place
-pub changed_var : (p : ℤ → Bool) (v : VarId) (old new : Sets) (change : Result Moved Emptied) (answer : Result (Unit {0}) Fail) → Changed p (number_of v) old new change → IsAnswer change answer
-    → ChangedAt p (Var v) (record { doms = old }) (record { doms = new }) answer
-changed_var p v old new (Ok moved) (Ok done) changed is = let some = some_left p (set_of old.sets (number_of v)) changed.0 in (record { value = some.0; there = some.1; passes = some.2 }, changed.1)
-changed_var p v old new (Ok moved) (Err fail) changed is = absurd is
-changed_var p v old new (Err emptied) (Ok done) changed is = absurd is
-changed_var p v old new (Err emptied) (Err fail) changed is = (λ a has. none_left p (set_of old.sets (number_of v)) a changed.0 has, ap (λ (d : Sets). record { doms = d }) changed.1)
+-- it is noted if a value went
+module _ (p : ℤ → Bool) (v : ℕ) (d : Sets) where
+  less_or_all : (n m : ℕ) → n ≤ m → (n < m) ⊎ (n ≡ m)
+  less_or_all zero zero le = inr refl
+  less_or_all zero (suc m) le = inl (omega arith)
+  less_or_all (suc n) zero le = absurd (omega (arith, le))
+  less_or_all (suc n) (suc m) le = by (less_or_all n m (omega (arith, le)))
+    where
+      by : (n < m) ⊎ (n ≡ m) → (suc n < suc m) ⊎ (suc n ≡ suc m)
+      by (inl less) = inl (omega (arith, less))
+      by (inr same) = inr (ap suc same)
+
+  note_of : (any before : Bool) → IsTrue any ↔ ((set_of d.now.sets v) ≢ filter p (set_of d.now.sets v)) → Notes (noted_if any before) (record { doms = d; moved = before }) (record { doms = with_sets d (kept p v d.now.sets); moved = noted_if any before })
+  note_of true before tells = inr (by (less_or_all (length (filter p (set_of d.now.sets v))) (length (set_of d.now.sets v)) (few_left p (set_of d.now.sets v))))
+    where
+      by : (length (filter p (set_of d.now.sets v)) < length (set_of d.now.sets v)) ⊎ (length (filter p (set_of d.now.sets v)) ≡ length (set_of d.now.sets v)) → count_of (kept p v d.now.sets) < count_of d.now.sets
+      by (inl less) = let count = count_kept p v d.now.sets in omega (arith, less, count)
+      by (inr same) = absurd (tells.0 refl (sym (all_left p (set_of d.now.sets v) same)))
+  note_of false true tells = inl refl
+  note_of false false tells = (refl, all_kept p v d.now.sets (by (less_or_all (length (filter p (set_of d.now.sets v))) (length (set_of d.now.sets v)) (few_left p (set_of d.now.sets v)))))
+    where
+      by : (length (filter p (set_of d.now.sets v)) < length (set_of d.now.sets v)) ⊎ (length (filter p (set_of d.now.sets v)) ≡ length (set_of d.now.sets v)) → count_of (kept p v d.now.sets) ≡ count_of d.now.sets
+      by (inl less) = absurd (true≢false (sym (tells.1 (λ same. let long = ap length same in omega (arith, less, long)))))
+      by (inr same) = let count = count_kept p v d.now.sets in omega (arith, same, count)
+
+-- a change of a variable's set is one of a place, where the same values stay
+change_of : (p q : ℤ → Bool) (t : Term) (v : ℕ) (d e : Sets) (any before now : Bool) → SomePasses p t d.now.sets → kept q v d.now.sets ≡ kept_at p t d.now.sets → e ≡ with_sets d (kept q v d.now.sets) → IsBox e.vars e.now.sets
+    → now ≡ noted_if any before → IsTrue any ↔ (set_of d.now.sets v ≢ filter q (set_of d.now.sets v)) → IsChange p t (record { doms = d; moved = before }) (record { doms = e; moved = now })
+change_of p q t v d e any before now some alike is box note tells = record {
+  some = some;
+  is = ap (λ (x : Sets). record { doms = x; moved = now }) (is ∙ ap (with_sets d) alike);
+  boxes = box;
+  noted = subst (λ b. Notes b (record { doms = d; moved = before }) (record { doms = e; moved = b })) (sym note)
+      (subst (λ (x : Sets). Notes (noted_if any before) (record { doms = d; moved = before }) (record { doms = x; moved = noted_if any before })) (sym is) (note_of q v d any before tells));
+}
+
+pub changed_var : (p : ℤ → Bool) (v : VarId) (d e : Sets) (before now : Bool) (change : Result Moved Emptied) (answer : Result (Unit {0}) Fail) → IsBox e.vars e.now.sets → Changed p (number_of v) d e change → IsAnswer change before now answer
+    → ChangedAt p (Var v) (record { doms = d; moved = before }) (record { doms = e; moved = now }) answer
+changed_var p v d e before now (Ok moved) (Ok done) box changed is =
+    let some = some_left p (set_of d.now.sets (number_of v)) changed.0 in
+    change_of p p (Var v) (number_of v) d e moved.any before now (record { value = some.0; there = some.1; passes = some.2 }) refl changed.1 box is changed.2.any
+changed_var p v d e before now (Ok moved) (Err fail) box changed is = absurd is
+changed_var p v d e before now (Err emptied) (Ok done) box changed is = absurd is
+changed_var p v d e before now (Err emptied) (Err fail) box changed is =
+    (λ a has. none_left p (set_of d.now.sets (number_of v)) a changed.0 has, ap (λ (x : Sets). record { doms = x; moved = now }) changed.1 ∙ ap (λ b. record { doms = d; moved = b }) is)
 
 -- and of the place of one less it, where the tests agree
-pub changed_not : (p q : ℤ → Bool) (v : VarId) (old new : Sets) (change : Result Moved Emptied) (answer : Result (Unit {0}) Fail) → ((b : ℤ) → Has (set_of old.sets (number_of v)) b → q b ≡ p (pos 1 -ℤ b))
-    → Changed q (number_of v) old new change → IsAnswer change answer → ChangedAt p (Not v) (record { doms = old }) (record { doms = new }) answer
-changed_not p q v old new (Ok moved) (Ok done) agree changed is =
-    let xs = set_of old.sets (number_of v) in
-    let some = some_left q xs changed.0 in (
-      record { value = pos 1 -ℤ some.0; there = subst (Has xs) (sym (back some.0)) some.1; passes = sym (agree some.0 some.1) ∙ some.2 },
-      changed.1 ∙ ap (λ ys. record old { sets = slice_set old.sets (number_of v) ys }) (filter_alike q (λ b. p (pos 1 -ℤ b)) xs agree),
-    )
-changed_not p q v old new (Ok moved) (Err fail) agree changed is = absurd is
-changed_not p q v old new (Err emptied) (Ok done) agree changed is = absurd is
-changed_not p q v old new (Err emptied) (Err fail) agree changed is =
-    let xs = set_of old.sets (number_of v) in
-    (λ a has. ap p (sym (back a)) ∙ (sym (agree (pos 1 -ℤ a) has) ∙ none_left q xs (pos 1 -ℤ a) changed.0 has), ap (λ (d : Sets). record { doms = d }) changed.1)
+pub changed_not : (p q : ℤ → Bool) (v : VarId) (d e : Sets) (before now : Bool) (change : Result Moved Emptied) (answer : Result (Unit {0}) Fail) → ((b : ℤ) → Has (set_of d.now.sets (number_of v)) b → q b ≡ p (pos 1 -ℤ b)) → IsBox e.vars e.now.sets
+    → Changed q (number_of v) d e change → IsAnswer change before now answer → ChangedAt p (Not v) (record { doms = d; moved = before }) (record { doms = e; moved = now }) answer
+changed_not p q v d e before now (Ok moved) (Ok done) agree box changed is =
+    let xs = set_of d.now.sets (number_of v) in
+    let some = some_left q xs changed.0 in
+    change_of p q (Not v) (number_of v) d e moved.any before now (record { value = pos 1 -ℤ some.0; there = subst (Has xs) (sym (back some.0)) some.1; passes = sym (agree some.0 some.1) ∙ some.2 })
+    (ap (λ ys. slice_set d.now.sets (number_of v) ys) (filter_alike q (λ b. p (pos 1 -ℤ b)) xs agree)) changed.1 box is changed.2.any
+changed_not p q v d e before now (Ok moved) (Err fail) agree box changed is = absurd is
+changed_not p q v d e before now (Err emptied) (Ok done) agree box changed is = absurd is
+changed_not p q v d e before now (Err emptied) (Err fail) agree box changed is =
+    let xs = set_of d.now.sets (number_of v) in
+    (λ a has. ap p (sym (back a)) ∙ (sym (agree (pos 1 -ℤ a) has) ∙ none_left q xs (pos 1 -ℤ a) changed.0 has), ap (λ (x : Sets). record { doms = x; moved = now }) changed.1 ∙ ap (λ b. record { doms = d; moved = b }) is)
 
 -- a constant stays or doesn't
-pub changed_const : (p : ℤ → Bool) (k : ℤ) (old : Context) (answer : Result (Unit {0}) Fail) (stays : Bool) → p k ≡ stays → IsAnswerIf stays answer → ChangedAt p (Const k) old old answer
-changed_const p k old (Ok done) stays e is = (record { value = k; there = refl; passes = e ∙ is }, refl)
-changed_const p k old (Err fail) stays e is = (λ a same. ap p (sym same) ∙ (e ∙ is), refl)
+pub changed_const : (p : ℤ → Bool) (k : ℤ) (old : Context) (answer : Result (Unit {0}) Fail) (stays : Bool) → IsBox (vars_of old) (box_of old) → p k ≡ stays → IsAnswerIf stays answer → ChangedAt p (Const k) old old answer
+changed_const p k old (Ok done) stays box e is = record { some = record { value = k; there = refl; passes = e ∙ is }; is = refl; boxes = box; noted = nothing_noted old.moved old refl }
+changed_const p k old (Err fail) stays box e is = (λ a same. ap p (sym same) ∙ (e ∙ is), refl)
 
 -- tests of one less a value
 le_back : (a b : ℤ) → int_le b (pos 1 -ℤ a) ≡ int_le a (pos 1 -ℤ b)

@@ -1,173 +1,201 @@
 -- Steps from changes, and steps one behind another.
-use Rattle.std.proofs.Common.{◌≡◌, ℕ, zero, suc, ◌<◌, ℤ, pos, ◌-ℤ◌, Bool, true, inl, List, [], ◌∷◌, length, filter, slice_set, Result, Ok, Err, IsErr, refl, sym, subst, ap, ◌∙◌, arith, true≢false}
+use Rattle.std.proofs.Common.{◌≡◌, ◌<◌, ◌≤◌, ℤ, Bool, true, false, inl, inr, List, Result, Ok, Err, IsErr, refl, sym, subst, ap, ◌∙◌, arith, true≢false}
 use Rattle.mn_closure.proofs.Wider.{wider_place}
-use Rattle.mn_model.specs.Domain.{Has}
-use Rattle.mn_model.specs.Variable.{number_of}
 use Rattle.mn_model.specs.declared.constraint.Term.{Term}
-use Rattle.mn_model.specs.declared.constraint.Term.TheVariants.{Var, Const, Not}
-use Rattle.mn_model.proofs.Filtered.{filter_has, has_filter}
-use Rattle.mn_boxes.specs.Boxes.{Inside, IsBox, set_of}
+use Rattle.mn_boxes.specs.Boxes.{Inside, IsBox, count_of}
 use Rattle.mn_boxes.specs.Places.{PlaceHas}
-use Rattle.mn_boxes.specs.Sets.{Variable}
-use Rattle.mn_boxes.proofs.Totals.{counts_inside}
-use Rattle.mn_domains.specs.Changes.{kept}
-use Rattle.mn_domains.specs.Sets.{Sets}
-use Rattle.mn_prop.specs.Contexts.{ChangedAt, Context, IsNamed, kept_at}
+use Rattle.mn_prop.specs.Contexts.{ChangedAt, Context, IsChange, IsNamed, Notes, box_of, kept_at, vars_of, with_box}
+use Rattle.mn_prop.specs.Losses.{Anything, Loses, nothing_goes, some_go}
 use Rattle.mn_prop.specs.Passes.{AllPass, IsStep, NoneHas, OnlyTakes}
 use Rattle.mn_prop.specs.declared.context.Fail.{Fail}
-use Rattle.mn_prop.proofs.PlaceLemmas.{back}
+use Rattle.mn_prop.proofs.Boxing.{all_at, few_at, inside_itself, inside_through, kept_inside, passing_inside, same_passes, some_value}
 
--- ---- one set in place of another
+abbrev pub Rules : Type 1
+Rules = List (List ℤ) → Term → ℤ → Type 0
 
--- the set at a place is the new one, and all others are the old ones
-set_here : (sets : List (List ℤ)) (v : ℕ) (ys : List ℤ) (a : ℤ) → Has (set_of (slice_set sets v ys) v) a → Has ys a
-set_here [] v ys a has = absurd has
-set_here (xs ∷ sets) zero ys a has = has
-set_here (xs ∷ sets) (suc v) ys a has = set_here sets v ys a has
+abbrev pub Property : Type 1
+Property = List (List ℤ) → Type 0
 
--- a part of the old set in its place leaves the sets inside the old ones
-set_inside : (sets : List (List ℤ)) (v : ℕ) (ys : List ℤ) → ((a : ℤ) → Has ys a → Has (set_of sets v) a) → (w : ℕ) (a : ℤ) → Has (set_of (slice_set sets v ys) w) a → Has (set_of sets w) a
-set_inside [] v ys part w a has = has
-set_inside (xs ∷ sets) zero ys part zero a has = part a has
-set_inside (xs ∷ sets) zero ys part (suc w) a has = has
-set_inside (xs ∷ sets) (suc v) ys part zero a has = has
-set_inside (xs ∷ sets) (suc v) ys part (suc w) a has = set_inside sets v ys part w a has
+-- ---- one change
 
--- and a box inside the old ones whose set there is part of the new one is inside them
-inside_set : (box sets : List (List ℤ)) (v : ℕ) (ys : List ℤ) → ((w : ℕ) (a : ℤ) → Has (set_of box w) a → Has (set_of sets w) a) → ((a : ℤ) → Has (set_of box v) a → Has ys a) → (w : ℕ) (a : ℤ) → Has (set_of box w) a → Has (set_of (slice_set sets v ys) w) a
-inside_set [] sets v ys i part w a has = absurd has
-inside_set (bs ∷ box) [] v ys i part w a has = absurd (i w a has)
-inside_set (bs ∷ box) (xs ∷ sets) zero ys i part zero a has = part a has
-inside_set (bs ∷ box) (xs ∷ sets) zero ys i part (suc w) a has = i (suc w) a has
-inside_set (bs ∷ box) (xs ∷ sets) (suc v) ys i part zero a has = i zero a has
-inside_set (bs ∷ box) (xs ∷ sets) (suc v) ys i part (suc w) a has = inside_set box sets v ys (λ u b at. i (suc u) b at) part w a has
+pub changed_box : {p : ℤ → Bool} {t : Term} {old new : Context} → IsChange p t old new → box_of new ≡ kept_at p t (box_of old)
+changed_box change = ap (λ (c : Context). box_of c) change.is
 
--- ---- boxes
+pub changed_vars : {p : ℤ → Bool} {t : Term} {old new : Context} → IsChange p t old new → vars_of new ≡ vars_of old
+changed_vars change = ap (λ (c : Context). vars_of c) change.is
 
--- each set of a box has a value
-pub some_in : (vars : List Variable) (box : List (List ℤ)) (v : ℕ) → IsBox vars box → v < length box → (a : ℤ) × Has (set_of box v) a
-some_in [] [] v is within = absurd (omega arith)
-some_in [] (xs ∷ box) v is within = absurd is
-some_in (var ∷ vars) [] v is within = absurd is
-some_in (var ∷ vars) ([] ∷ box) zero is within = absurd (is.0.filled refl)
-some_in (var ∷ vars) ((x ∷ xs) ∷ box) zero is within = (x, inl refl)
-some_in (var ∷ vars) (xs ∷ box) (suc v) is within = some_in vars box v is.1 (omega arith)
+change_inside : {p : ℤ → Bool} {t : Term} {old new : Context} → IsChange p t old new → Inside (box_of new) (box_of old)
+change_inside {p = p} {t = t} {old = old} {new = new} change = subst (λ box. Inside box (box_of old)) (sym (changed_box change)) (kept_inside p t (box_of old))
 
--- two boxes have as many sets
-pub as_long : (vars : List Variable) (box other : List (List ℤ)) → IsBox vars box → IsBox vars other → length box ≡ length other
-as_long [] [] [] one two = refl
-as_long [] [] (ys ∷ other) one two = absurd two
-as_long [] (xs ∷ box) other one two = absurd one
-as_long (var ∷ vars) [] other one two = absurd one
-as_long (var ∷ vars) (xs ∷ box) [] one two = absurd two
-as_long (var ∷ vars) (xs ∷ box) (ys ∷ other) one two = ap suc (as_long vars box other one.1 two.1)
+-- ---- values that go, one change after another
 
--- a place that is named in one box has a value in each
-pub some_value : (vars : List Variable) (box other : List (List ℤ)) (t : Term) → IsBox vars box → IsBox vars other → IsNamed other t → (a : ℤ) × PlaceHas box t a
-some_value vars box other (Var v) one two named = some_in vars box (number_of v) one (subst (λ n. number_of v < n) (sym (as_long vars box other one two)) named)
-some_value vars box other (Const k) one two named = (k, refl)
-some_value vars box other (Not v) one two named =
-    let some = some_in vars box (number_of v) one (subst (λ n. number_of v < n) (sym (as_long vars box other one two)) named) in
-    (pos 1 -ℤ some.0, subst (Has (set_of box (number_of v))) (sym (back some.0)) some.1)
+pub loses_more : {R : Rules} {old mid new : Context} → Loses R old mid → Loses R mid new → Loses R old new
+loses_more (nothing_goes c) more = more
+loses_more (some_go old next mid t p change may rest) more = some_go old next _ t p change may (loses_more rest more)
 
-pub inside_itself : (box : List (List ℤ)) → Inside box box
-inside_itself box = record { within = λ v a has. has }
+-- by another rule, that lets go what the one does from each box inside the old one
+pub loses_so : {R S : Rules} {old new : Context} → ((box : List (List ℤ)) → Inside box (box_of old) → (t : Term) (a : ℤ) → PlaceHas box t a → R box t a → S box t a) → Loses R old new → Loses S old new
+loses_so so (nothing_goes c) = nothing_goes c
+loses_so so (some_go old mid new t p change may rest) =
+    some_go old mid new t p change (λ a has out. so (box_of old) (inside_itself (box_of old)) t a has (may a has out))
+    (loses_so (λ box inside. so box (inside_through inside (change_inside change))) rest)
 
-pub inside_through : {inner box outer : List (List ℤ)} → Inside inner box → Inside box outer → Inside inner outer
-inside_through one two = record { within = λ v a has. two.within v a (one.within v a has) }
+pub same_vars : {R : Rules} {old new : Context} → Loses R old new → vars_of new ≡ vars_of old
+same_vars (nothing_goes c) = refl
+same_vars (some_go old mid new t p change may rest) = same_vars rest ∙ changed_vars change
 
--- ---- changes
+pub goes_inside : {R : Rules} {old new : Context} → Loses R old new → Inside (box_of new) (box_of old)
+goes_inside (nothing_goes c) = inside_itself (box_of c)
+goes_inside (some_go old mid new t p change may rest) = inside_through (goes_inside rest) (change_inside change)
 
--- the sets that pass a test at a place are inside the old ones, and around every box that passes it there
-pub kept_inside : (p : ℤ → Bool) (t : Term) (sets : List (List ℤ)) → Inside (kept_at p t sets) sets
-kept_inside p (Var v) sets = record { within = set_inside sets (number_of v) (filter p (set_of sets (number_of v))) (λ a has. (has_filter p (set_of sets (number_of v)) a has).has) }
-kept_inside p (Const k) sets = inside_itself sets
-kept_inside p (Not v) sets = record { within = set_inside sets (number_of v) (filter (λ b. p (pos 1 -ℤ b)) (set_of sets (number_of v))) (λ a has. (has_filter (λ b. p (pos 1 -ℤ b)) (set_of sets (number_of v)) a has).has) }
+-- what is left is a box
+pub box_again : {R : Rules} {old new : Context} → Loses R old new → IsBox (vars_of old) (box_of old) → IsBox (vars_of new) (box_of new)
+box_again (nothing_goes c) is = is
+box_again (some_go old mid new t p change may rest) is = box_again rest change.boxes
 
-passing_inside : (p : ℤ → Bool) (t : Term) (box sets : List (List ℤ)) → Inside box sets → AllPass p t box → Inside box (kept_at p t sets)
-passing_inside p (Var v) box sets i pass = record { within = inside_set box sets (number_of v) (filter p (set_of sets (number_of v))) i.within (λ a has. filter_has p (set_of sets (number_of v)) a (i.within (number_of v) a has) (pass a has)) }
-passing_inside p (Const k) box sets i pass = i
-passing_inside p (Not v) box sets i pass =
-    let q : ℤ → Bool = λ b. p (pos 1 -ℤ b) in
-    record { within = inside_set box sets (number_of v) (filter q (set_of sets (number_of v))) i.within (λ a has. filter_has q (set_of sets (number_of v)) a (i.within (number_of v) a has) (pass (pos 1 -ℤ a) (subst (Has (set_of box (number_of v))) (sym (back a)) has))) }
+same_frame : {R : Rules} {old new : Context} → Loses R old new → new ≡ with_box old (box_of new) new.moved
+same_frame (nothing_goes c) = refl
+same_frame (some_go old mid new t p change may rest) = same_frame rest ∙ ap (λ (c : Context). with_box c (box_of new) new.moved) change.is
 
--- all that is kept passes
-pub kept_passes : (p : ℤ → Bool) (v : ℕ) (sets : List (List ℤ)) (a : ℤ) → Has (set_of (kept p v sets) v) a → p a ≡ true
-kept_passes p v sets a has = (has_filter p (set_of sets v) a (set_here sets v (filter p (set_of sets v)) a has)).passes
+pub only_takes : {R : Rules} {old new : Context} → Loses R old new → OnlyTakes old new
+only_takes loses = record { frame = same_frame loses; boxes = box_again loses; inside = goes_inside loses }
 
-same_passes : (p : ℤ → Bool) (t : Term) (sets : List (List ℤ)) → (a : ℤ) × PlaceHas sets t a × (p a ≡ true) → kept_at p t sets ≡ sets → AllPass p t sets
-same_passes p (Var v) sets some same a has = kept_passes p (number_of v) sets a (subst (λ box. Has (set_of box (number_of v)) a) (sym same) has)
-same_passes p (Const k) sets some same a has = ap p (sym has ∙ some.1) ∙ some.2
-same_passes p (Not v) sets some same a has =
-    ap p (sym (back a)) ∙ kept_passes (λ b. p (pos 1 -ℤ b)) (number_of v) sets (pos 1 -ℤ a) (subst (λ box. Has (set_of box (number_of v)) (pos 1 -ℤ a)) (sym same) has)
-
--- a change of a place is a step
-pub change_step : (p : ℤ → Bool) (t : Term) (old new : Context) (result : Result (Unit {0}) Fail) → IsBox old.doms.vars old.doms.sets → IsNamed old.doms.sets t → ChangedAt p t old new result → IsStep (AllPass p t) old.doms new.doms result
-change_step p t old new (Ok done) is named changed = record {
-  takes = record {
-    vars = ap (λ (s : Sets). s.vars) changed.1;
-    saved = ap (λ (s : Sets). s.saved) changed.1;
-    inside = subst (λ (s : Sets). Inside s.sets old.doms.sets) (sym changed.1) (kept_inside p t old.doms.sets);
-  };
-  sound = λ box lawful i pass. subst (λ (s : Sets). Inside box s.sets) (sym changed.1) (passing_inside p t box old.doms.sets i pass);
-  fail = tt;
-  still = λ same. same_passes p t old.doms.sets (changed.0.value, changed.0.there, changed.0.passes) (sym (ap (λ (s : Sets). s.sets) changed.1) ∙ same);
+pub taken_through : {old mid new : Context} → OnlyTakes old mid → OnlyTakes mid new → OnlyTakes old new
+taken_through {old = old} {mid = mid} {new = new} one two = record {
+  frame = two.frame ∙ ap (λ (c : Context). with_box c (box_of new) new.moved) one.frame;
+  boxes = λ is. two.boxes (one.boxes is);
+  inside = inside_through two.inside one.inside;
 }
-change_step p t old new (Err fail) is named changed = record {
-  takes = subst (λ (s : Context). OnlyTakes old.doms s.doms) (sym changed.1) (record { vars = refl; saved = refl; inside = inside_itself old.doms.sets });
-  sound = tt;
-  fail = λ box lawful i pass. (let some = some_value old.doms.vars box old.doms.sets t lawful is named in true≢false (sym (pass some.0 some.1) ∙ changed.0 some.0 (wider_place box old.doms.sets i t some.0 some.1)));
-  still = tt;
-}
+
+-- where it is said that the context is at rest nothing goes
+pub taken_at_rest : (c : Context) → OnlyTakes c (record c { moved = false })
+taken_at_rest c = record { frame = refl; boxes = λ is. is; inside = inside_itself (box_of c) }
+
+pub taken_vars : {old new : Context} → OnlyTakes old new → vars_of new ≡ vars_of old
+taken_vars takes = ap (λ (c : Context). vars_of c) takes.frame
+
+-- there are no more values than before
+pub no_more : {R : Rules} {old new : Context} → Loses R old new → count_of (box_of new) ≤ count_of (box_of old)
+no_more (nothing_goes c) = omega arith
+no_more (some_go old mid new t p change may rest) =
+    let less = no_more rest in
+    let few = few_at p t (box_of old) in
+    let count = ap count_of (changed_box change) in
+    omega (arith, less, few, count)
+
+-- and where there are as many, none went
+pub as_many : {R : Rules} {old new : Context} → Loses R old new → count_of (box_of new) ≡ count_of (box_of old) → box_of new ≡ box_of old
+as_many (nothing_goes c) same = refl
+as_many (some_go old mid new t p change may rest) same =
+    let less = no_more rest in
+    let few = few_at p t (box_of old) in
+    let count = ap count_of (changed_box change) in
+    as_many rest (omega (arith, less, few, count, same)) ∙ (changed_box change ∙ all_at p t (box_of old) (omega (arith, less, few, count, same)))
+
+-- where none is gone at the end, none was gone on the way
+pub same_between : {R S : Rules} {old mid new : Context} → Loses R old mid → Loses S mid new → box_of new ≡ box_of old → box_of mid ≡ box_of old
+same_between one two same =
+    let less = no_more one in
+    let more = no_more two in
+    let count = ap count_of same in
+    as_many one (omega (arith, less, more, count))
+
+-- the mark says whether values went
+notes_through : (mid_moved moved : Bool) (old mid new : Context) → mid.moved ≡ mid_moved → Notes mid_moved old mid → Notes moved mid new → count_of (box_of mid) ≤ count_of (box_of old) → count_of (box_of new) ≤ count_of (box_of mid) → Notes moved old new
+notes_through false false old mid new is one two less more = (one.0, two.1 ∙ one.1)
+notes_through true false old mid new is one two less more = absurd (true≢false (sym is ∙ two.0))
+notes_through b true old mid new is one (inr fewer) less more = inr (omega (arith, fewer, less))
+notes_through false true old mid new is one (inl before) less more = absurd (true≢false (sym before ∙ is))
+notes_through true true old mid new is (inl before) (inl was) less more = inl before
+notes_through true true old mid new is (inr fewer) (inl was) less more = inr (omega (arith, fewer, more))
+
+pub nothing_noted : (moved : Bool) (c : Context) → c.moved ≡ moved → Notes moved c c
+nothing_noted false c is = (is, refl)
+nothing_noted true c is = inl is
+
+pub noted : {R : Rules} {old new : Context} → Loses R old new → Notes new.moved old new
+noted (nothing_goes c) = nothing_noted c.moved c refl
+noted (some_go old mid new t p change may rest) =
+    let few = few_at p t (box_of old) in
+    let count = ap count_of (changed_box change) in
+    notes_through mid.moved new.moved old mid new refl change.noted (noted rest) (omega (arith, few, count)) (no_more rest)
+
+-- what the mark says
+pub none_gone : (old new : Context) → new.moved ≡ false → Notes new.moved old new → box_of new ≡ box_of old
+none_gone old new quiet notes = by new.moved quiet notes
+  where
+    by : (b : Bool) → b ≡ false → Notes b old new → box_of new ≡ box_of old
+    by false is tells = tells.1
+    by true is tells = absurd (true≢false is)
+
+pub some_gone : (old new : Context) → old.moved ≡ false → new.moved ≡ true → Notes new.moved old new → count_of (box_of new) < count_of (box_of old)
+some_gone old new before moved notes = by new.moved moved notes
+  where
+    by : (b : Bool) → b ≡ true → Notes b old new → count_of (box_of new) < count_of (box_of old)
+    by false is tells = absurd (true≢false (sym is))
+    by true is (inl was) = absurd (true≢false (sym was ∙ before))
+    by true is (inr fewer) = fewer
 
 -- ---- steps
 
-pub none_taken : (s : Sets) → OnlyTakes s s
-none_taken s = record { vars = refl; saved = refl; inside = inside_itself s.sets }
-
-pub taken_through : (old mid new : Sets) → OnlyTakes old mid → OnlyTakes mid new → OnlyTakes old new
-taken_through old mid new one two = record { vars = two.vars ∙ one.vars; saved = two.saved ∙ one.saved; inside = inside_through two.inside one.inside }
-
 -- nothing is done where the sets have the property, and nothing can be where no box inside them has it
-pub no_step : (P : List (List ℤ) → Type 0) (s : Sets) → P s.sets → IsStep P s s (Ok tt)
-no_step P s has = record { takes = none_taken s; sound = λ box is i p. i; fail = tt; still = λ same. has }
+pub no_step : {R : Rules} {P : Property} (c : Context) → P (box_of c) → IsStep R P c c (Ok tt)
+no_step c has = record { loses = nothing_goes c; sound = λ box is i p. i; fail = tt; still = λ same. has }
 
-pub failing : (P : List (List ℤ) → Type 0) (old new : Sets) (fail : Fail) → OnlyTakes old new → NoneHas old.vars P old.sets → IsStep P old new (Err fail)
-failing P old new fail takes none = record { takes = takes; sound = tt; fail = none; still = tt }
+pub failing : {R : Rules} {P : Property} {old new : Context} (fail : Fail) → Loses R old new → NoneHas (vars_of old) P (box_of old) → IsStep R P old new (Err fail)
+failing fail loses none = record { loses = loses; sound = tt; fail = none; still = tt }
 
--- a step towards one property is a step towards another, where a box with the other has the one, and sets with the one have the other
-pub as_step : (P Q : List (List ℤ) → Type 0) (old new : Sets) (result : Result (Unit {0}) Fail) → ((box : List (List ℤ)) → IsBox old.vars box → Inside box old.sets → Q box → P box) → (P old.sets → Q old.sets) → IsStep P old new result → IsStep Q old new result
-as_step P Q old new (Ok done) less more step = record { takes = step.takes; sound = λ box is i q. step.sound box is i (less box is i q); fail = tt; still = λ same. more (step.still same) }
-as_step P Q old new (Err fail) less more step = record { takes = step.takes; sound = tt; fail = λ box is i q. step.fail box is i (less box is i q); still = tt }
+-- a change of a place is a step
+pub change_step : {R : Rules} {old new : Context} {result : Result (Unit {0}) Fail} (p : ℤ → Bool) (t : Term) → IsNamed (vars_of old) t → ((a : ℤ) → PlaceHas (box_of old) t a → p a ≡ false → R (box_of old) t a) → ChangedAt p t old new result → IsStep R (AllPass p t) old new result
+change_step {R = R} {old = old} {new = new} {result = Ok done} p t named may change = record {
+  loses = some_go old new new t p change may (nothing_goes new);
+  sound = λ box lawful i pass. subst (Inside box) (sym (changed_box change)) (passing_inside p t box (box_of old) i pass);
+  fail = tt;
+  still = λ same. same_passes p t (box_of old) change.some (sym (changed_box change) ∙ same);
+}
+change_step {R = R} {old = old} {new = new} {result = Err fail} p t named may changed = subst (λ c. IsStep R (AllPass p t) old c (Err fail)) (sym changed.1) (record {
+  loses = nothing_goes old;
+  sound = tt;
+  fail = λ box lawful i pass. (let some = some_value (vars_of old) box t lawful named in true≢false (sym (pass some.0 some.1) ∙ changed.0 some.0 (wider_place box (box_of old) i t some.0 some.1)));
+  still = tt;
+})
 
--- where nothing is gone at the end, nothing was gone on the way
-pub same_between : (vars : List Variable) (old mid new : List (List ℤ)) → IsBox vars old → IsBox vars mid → Inside new mid → Inside mid old → new ≡ old → mid ≡ old
-same_between vars old mid new is_old is_mid later former same = (counts_inside vars mid old is_mid is_old former).same (let less = (counts_inside vars mid old is_mid is_old former).no_more in let more = (counts_inside vars old mid is_old is_mid (subst (λ box. Inside box mid) same later)).no_more in omega arith)
+-- a step towards one property is a step towards another, where a box with the other has the one, and sets with the one have
+-- the other
+pub as_step : {R : Rules} {P Q : Property} {old new : Context} {result : Result (Unit {0}) Fail} → ((box : List (List ℤ)) → IsBox (vars_of old) box → Inside box (box_of old) → Q box → P box) → (P (box_of old) → Q (box_of old)) → IsStep R P old new result → IsStep R Q old new result
+as_step {R = R} {P = P} {Q = Q} {old = old} {new = new} {result = Ok done} less more step = record { loses = step.loses; sound = λ box is i q. step.sound box is i (less box is i q); fail = tt; still = λ same. more (step.still same) }
+as_step {R = R} {P = P} {Q = Q} {old = old} {new = new} {result = Err fail} less more step = record { loses = step.loses; sound = tt; fail = λ box is i q. step.fail box is i (less box is i q); still = tt }
+
+-- and one by another rule
+pub by_rule : {R S : Rules} {P : Property} {old new : Context} {result : Result (Unit {0}) Fail} → ((box : List (List ℤ)) → Inside box (box_of old) → (t : Term) (a : ℤ) → PlaceHas box t a → R box t a → S box t a) → IsStep R P old new result → IsStep S P old new result
+by_rule so step = record { loses = loses_so so step.loses; sound = step.sound; fail = step.fail; still = step.still }
+
+pub by_any : {R : Rules} {P : Property} {old new : Context} {result : Result (Unit {0}) Fail} → IsStep R P old new result → IsStep Anything P old new result
+by_any step = by_rule (λ box inside t a has may. tt) step
 
 -- a step behind another one is a step towards both properties
-pub then_step : (P Q : List (List ℤ) → Type 0) (old mid new : Sets) (done : Unit {0}) (result : Result (Unit {0}) Fail) → IsBox old.vars old.sets → IsBox mid.vars mid.sets → IsStep P old mid (Ok done) → IsStep Q mid new result → IsStep (λ box. P box × Q box) old new result
-then_step P Q old mid new done (Ok end) is_old is_mid one two =
-    let first : (box : List (List ℤ)) → IsBox old.vars box → Inside box old.sets → P box → Inside box mid.sets = one.sound in
-    let second : (box : List (List ℤ)) → IsBox mid.vars box → Inside box mid.sets → Q box → Inside box new.sets = two.sound in
+pub then_step : {R : Rules} {P Q : Property} {old mid new : Context} {done : Unit {0}} {result : Result (Unit {0}) Fail} → IsStep R P old mid (Ok done) → IsStep R Q mid new result → IsStep R (λ box. P box × Q box) old new result
+then_step {R = R} {P = P} {Q = Q} {old = old} {mid = mid} {new = new} {done = done} {result = Ok end} one two =
+    let first : (box : List (List ℤ)) → IsBox (vars_of old) box → Inside box (box_of old) → P box → Inside box (box_of mid) = one.sound in
+    let second : (box : List (List ℤ)) → IsBox (vars_of mid) box → Inside box (box_of mid) → Q box → Inside box (box_of new) = two.sound in
     record {
-      takes = taken_through old mid new one.takes two.takes;
-      sound = λ box is i both. second box (subst (λ vars. IsBox vars box) (sym one.takes.vars) is) (first box is i both.0) both.1;
+      loses = loses_more one.loses two.loses;
+      sound = λ box is i both. second box (subst (λ vars. IsBox vars box) (sym (same_vars one.loses)) is) (first box is i both.0) both.1;
       fail = tt;
-      still = λ same. (let mid_is = same_between old.vars old.sets mid.sets new.sets is_old (subst (λ vars. IsBox vars mid.sets) one.takes.vars is_mid) two.takes.inside one.takes.inside same in
-          (one.still mid_is, subst Q mid_is (two.still (same ∙ sym mid_is))));
+      still = λ same. (let mid_is = same_between one.loses two.loses same in (one.still mid_is, subst Q mid_is (two.still (same ∙ sym mid_is))));
     }
-then_step P Q old mid new done (Err fail) is_old is_mid one two =
-    let first : (box : List (List ℤ)) → IsBox old.vars box → Inside box old.sets → P box → Inside box mid.sets = one.sound in
-    let none : (box : List (List ℤ)) → IsBox mid.vars box → Inside box mid.sets → Q box → ⊥ = two.fail in
+then_step {R = R} {P = P} {Q = Q} {old = old} {mid = mid} {new = new} {done = done} {result = Err fail} one two =
+    let first : (box : List (List ℤ)) → IsBox (vars_of old) box → Inside box (box_of old) → P box → Inside box (box_of mid) = one.sound in
+    let none : (box : List (List ℤ)) → IsBox (vars_of mid) box → Inside box (box_of mid) → Q box → ⊥ = two.fail in
     record {
-      takes = taken_through old mid new one.takes two.takes;
+      loses = loses_more one.loses two.loses;
       sound = tt;
-      fail = λ box is i both. none box (subst (λ vars. IsBox vars box) (sym one.takes.vars) is) (first box is i both.0) both.1;
+      fail = λ box is i both. none box (subst (λ vars. IsBox vars box) (sym (same_vars one.loses)) is) (first box is i both.0) both.1;
       still = tt;
     }
 
 -- a step that fails ends the whole
-pub stop_step : (P Q : List (List ℤ) → Type 0) (old new : Sets) (result : Result (Unit {0}) Fail) (fail : Fail) → result ≡ Err fail → ((box : List (List ℤ)) → IsBox old.vars box → Inside box old.sets → Q box → P box) → IsStep P old new result → (end : Result (Unit {0}) Fail) → IsErr end → IsStep Q old new end
-stop_step P Q old new (Ok done) fail is less step end err = cc
-stop_step P Q old new (Err f) fail is less step (Ok done) err = cc
-stop_step P Q old new (Err f) fail is less step (Err g) err = failing Q old new g step.takes (λ box lawful i q. step.fail box lawful i (less box lawful i q))
+pub stop_step : {R : Rules} {P Q : Property} {old new : Context} {result end : Result (Unit {0}) Fail} (fail : Fail) → result ≡ Err fail → ((box : List (List ℤ)) → IsBox (vars_of old) box → Inside box (box_of old) → Q box → P box) → IsStep R P old new result → IsErr end → IsStep R Q old new end
+stop_step {R = R} {P = P} {Q = Q} {old = old} {new = new} {result = Ok done} {end = end} fail is less step err = cc
+stop_step {R = R} {P = P} {Q = Q} {old = old} {new = new} {result = Err f} {end = Ok done} fail is less step err = cc
+stop_step {R = R} {P = P} {Q = Q} {old = old} {new = new} {result = Err f} {end = Err g} fail is less step err = failing g step.loses (λ box lawful i q. step.fail box lawful i (less box lawful i q))

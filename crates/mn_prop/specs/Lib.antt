@@ -1,4 +1,7 @@
 pub mod Contexts
+pub mod Forwards
 pub mod Losses
 pub mod Passes
-pub mod Sweeps
+pub mod Posts
+pub mod Revising
+pub mod Trials

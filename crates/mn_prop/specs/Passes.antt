@@ -1,25 +1,18 @@
 -- What a step of propagation owes: it takes values alone, keeps every box that has a property, and finds none where it fails.
-use Rattle.std.specs.Prelude.{◌≡◌, ℕ, ℤ, ◌≤ℤ◌, Bool, true, List, OnErr, OnOk, Result}
-use Rattle.mn_model.specs.Lawful.{IsLawfulCon, IsMeant}
-use Rattle.mn_model.specs.Problem.{domains_of}
-use Rattle.mn_model.specs.declared.constraint.Con.{Con}
+use Rattle.std.specs.Prelude.{◌≡◌, ℤ, ◌≤ℤ◌, Bool, true, List, OnErr, OnOk, Result}
 use Rattle.mn_model.specs.declared.constraint.Term.{Term}
-use Rattle.mn_model.specs.declared.declaration.Decl.{Decl}
-use Rattle.mn_model.specs.declared.declaration.Tuples.{Tuples}
-use Rattle.mn_boxes.specs.Boxes.{IsBox, Inside, declared_variables}
+use Rattle.mn_boxes.specs.Boxes.{IsBox, Inside}
 use Rattle.mn_boxes.specs.Places.{PlaceHas}
 use Rattle.mn_boxes.specs.Sets.{Variable}
-use Rattle.mn_domains.specs.Sets.{Sets}
-use Rattle.mn_closure.specs.Closed.{Closed}
-use Rattle.mn_closure.specs.Laws.{Suits}
-use Rattle.mn_closure.specs.Supports.{StandsAt}
+use Rattle.mn_prop.specs.Contexts.{Context, box_of, vars_of, with_box}
+use Rattle.mn_prop.specs.Losses.{Loses}
 use Rattle.mn_prop.specs.declared.context.Fail.{Fail}
 
--- values may be gone, and nothing else changed
-pub record OnlyTakes (old new : Sets) : Type 0 where
-  pub vars : new.vars ≡ old.vars
-  pub saved : new.saved ≡ old.saved
-  pub inside : Inside new.sets old.sets
+-- values may be gone, what is left is a box again, and nothing else changed
+pub record OnlyTakes (old new : Context) : Type 0 where
+  pub frame : new ≡ with_box old (box_of new) new.moved
+  pub boxes : IsBox (vars_of old) (box_of old) → IsBox (vars_of new) (box_of new)
+  pub inside : Inside (box_of new) (box_of old)
 
 -- each box inside the old sets that has the property is inside the new ones
 abbrev pub Keeps : List Variable → (List (List ℤ) → Type 0) → List (List ℤ) → List (List ℤ) → Type 0
@@ -29,13 +22,19 @@ Keeps vars P old new = (box : List (List ℤ)) → IsBox vars box → Inside box
 abbrev pub NoneHas : List Variable → (List (List ℤ) → Type 0) → List (List ℤ) → Type 0
 NoneHas vars P sets = (box : List (List ℤ)) → IsBox vars box → Inside box sets → P box → ⊥
 
--- a step towards the boxes that have a property: it takes values alone, each box with the property stays, it fails only where
--- there is none, and where it changes nothing the sets have the property
-pub record IsStep (P : List (List ℤ) → Type 0) (old new : Sets) (result : Result (Unit {0}) Fail) : Type 0 where
-  pub takes : OnlyTakes old new
-  pub sound : OnOk result (Keeps old.vars P old.sets new.sets)
-  pub fail : OnErr result (NoneHas old.vars P old.sets)
-  pub still : OnOk result (new.sets ≡ old.sets → P old.sets)
+-- a step towards the boxes that have a property: each value that it takes is one that the rule lets go, each box with the
+-- property stays, it fails only where there is none, and where no value went the sets have the property
+pub record IsStep (Rule : List (List ℤ) → Term → ℤ → Type 0) (P : List (List ℤ) → Type 0) (old new : Context) (result : Result (Unit {0}) Fail) : Type 0 where
+  pub loses : Loses Rule old new
+  pub sound : OnOk result (Keeps (vars_of old) P (box_of old) (box_of new))
+  pub fail : OnErr result (NoneHas (vars_of old) P (box_of old))
+  pub still : OnOk result (box_of new ≡ box_of old → P (box_of old))
+
+-- the same of one that may leave more to be taken
+pub record Narrows (Rule : List (List ℤ) → Term → ℤ → Type 0) (P : List (List ℤ) → Type 0) (old new : Context) (result : Result (Unit {0}) Fail) : Type 0 where
+  pub loses : Loses Rule old new
+  pub sound : OnOk result (Keeps (vars_of old) P (box_of old) (box_of new))
+  pub fail : OnErr result (NoneHas (vars_of old) P (box_of old))
 
 -- properties of a box that a step may be towards: all values of a place pass a test, or are at least or at most a number
 abbrev pub AllPass : (ℤ → Bool) → Term → List (List ℤ) → Type 0
@@ -46,20 +45,3 @@ AtLeastAt t bound box = (a : ℤ) → PlaceHas box t a → bound ≤ℤ a
 
 abbrev pub AtMostAt : Term → ℤ → List (List ℤ) → Type 0
 AtMostAt t bound box = (a : ℤ) → PlaceHas box t a → a ≤ℤ bound
-
--- what a constraint keeps beside variables and tuple lists, so that it can be propagated: every lawful one does
-pub record IsReady (vars : List Variable) (lists : List Tuples) (c : Con) : Type 0 where
-  pub suits : Suits vars c
-  pub meant : IsMeant lists c
-
--- the box is closed under the constraint
-abbrev pub ClosedUnder : List Variable → List Tuples → Con → List (List ℤ) → Type 0
-ClosedUnder vars lists c box = Closed vars lists c true box
-
--- every lawful constraint is ready beside its declarations
-abbrev pub LawfulIsReady : Type 0
-LawfulIsReady = (decls : List Decl) (lists : List Tuples) (c : Con) → IsLawfulCon (domains_of decls) lists c → IsReady (declared_variables decls) lists c
-
--- a is a value of the constraint's place i
-abbrev pub HasAt : Con → ℕ → ℤ → List (List ℤ) → Type 0
-HasAt c i a box = (t : Term) → StandsAt c i t → PlaceHas box t a

@@ -1,8 +1,10 @@
-ghost use Rattle.std.specs.Prelude.{◌≡◌, ◌↔◌, ◌++◌, ◌∷◌, [], IfOk, IsTrue, OnErr, OnOk, false, int_le, int_lt};
+//! The context in which propagators work.
+ghost use Rattle.std.specs.Prelude.{◌≡◌, ◌↔◌, IfOk, IsTrue, OnErr, OnOk, false, int_le};
 ghost use Rattle.std.specs.Ordering.{int_eq};
 ghost use Rattle.mn_boxes.specs.Boxes.{declared_variables};
-ghost use Rattle.mn_boxes.specs.Places.{PlaceHas};
 ghost use Rattle.mn_domains.specs.Changes.{is_not};
+ghost use Rattle.mn_domains.specs.Sets.{AreBoxes};
+ghost use Rattle.mn_boxes.specs.Places.{IsPlaceEnd, PlaceHas};
 ghost use Rattle.mn_prop.specs.Contexts.{IsAnswer, IsAnswerIf, IsTurned};
 
 use mn_boxes::Moved;
@@ -15,10 +17,12 @@ use std::marker::Model;
 #[derive(Clone, Copy, Debug, PartialEq, Eq)]
 pub struct Fail;
 
-/// The sets that propagators narrow, by the places of their constraints. Contracts see the sets.
+/// The sets that propagators narrow, by the places of their constraints. Contracts see the sets, and the mark.
 #[derive(Drop)]
 pub struct Ctx {
     doms: Doms,
+    /// Whether a value went since `rest`.
+    moved: bool,
 }
 
 impl Model for Ctx {
@@ -26,7 +30,7 @@ impl Model for Ctx {
 
     ghost Value = { Context };
 
-    ghost view = { λ c. record { doms = c.doms } };
+    ghost view = { λ c. record { doms = c.doms; moved = c.moved } };
 
     ghost invariant = { λ c. AreValued c.doms.vars };
 }
@@ -38,12 +42,19 @@ fn turned(a: i64) -> i64
     1i64.saturating_sub(a)
 }
 
-// What is answered of a change of a variable's set.
-fn answer(change: Result<Moved, Emptied>) -> Result<(), Fail>
-    ensures { IsAnswer change result }
+// What is answered of a change of a variable's set, after which the sets are a box. It is noted if a value went.
+fn answer(change: Result<Moved, Emptied>, doms: &Doms, noted: &mut bool) -> Result<(), Fail>
+    ensures boxes { AreBoxes doms.now }
+    ensures answer { IsAnswer change noted.old noted.new result }
 {
+    doms.lawful();
     match change {
-        Ok(_) => Ok(()),
+        Ok(moved) => {
+            if moved.any {
+                *noted = true;
+            }
+            Ok(())
+        }
         Err(Emptied) => Err(Fail),
     }
 }
@@ -58,23 +69,22 @@ fn answer_if(stays: bool) -> Result<(), Fail>
 impl Ctx {
     ghost use Rattle.mn_closure.specs.Closed.{IsAlone};
     ghost use Rattle.mn_closure.specs.Supports.{IsOpen};
-    ghost use Rattle.mn_domains.specs.Changes.{Restored};
-    ghost use Rattle.mn_domains.specs.Sets.{AreBoxes};
-    ghost use Rattle.mn_prop.specs.Contexts.{AreValued, ChangedAt, IsGreatestAt, IsLeastAt, IsNamed, IsNextAt, MayGoAt, place_hi, place_lo};
+    ghost use Rattle.mn_domains.specs.Changes.{Restored, saved_now};
+    ghost use Rattle.mn_prop.specs.Contexts.{AreValued, ChangedAt, IsGreatestAt, IsLeastAt, IsNamed, IsNextAt, MayGoAt, box_of, place_hi, place_lo, vars_of};
 
     /// Takes the sets of the instance's variables.
     pub fn build(inst: &Instance, doms: Doms) -> Result<Ctx, AllocError>
         requires { doms.vars ≡ declared_variables inst.now.decls }
-        ensures { IfOk result (λ c. c.doms ≡ doms) }
+        ensures { IfOk result (λ c. c ≡ record { doms = doms; moved = false }) }
     {
         inst.lawful();
-        Ok(Ctx { doms })
+        Ok(Ctx { doms, moved: false })
     }
 
     /// What the sets keep: now and whenever they were saved they are a box, of values within the limits.
     pub fn lawful(&self)
         ensures boxes { AreBoxes self.now.doms }
-        ensures valued { AreValued self.now.doms.vars }
+        ensures valued { AreValued (vars_of self.now) }
     {
         self.doms.lawful();
     }
@@ -86,11 +96,26 @@ impl Ctx {
         &self.doms
     }
 
+    /// From here on it is noted whether a value goes.
+    pub fn rest(&mut self)
+        ensures { self.new ≡ record self.old { moved = false } }
+    {
+        self.moved = false;
+    }
+
+    /// Whether a value went since `rest`.
+    pub fn moved(&self) -> bool
+        ensures { result ≡ self.now.moved }
+    {
+        self.moved
+    }
+
     /// The least value of the place.
     pub fn lo(&self, t: Term) -> i64
-        requires { IsNamed self.now.doms.sets t }
-        ensures is { result ≡ place_lo self.now.doms.sets t }
-        ensures least { IsLeastAt self.now.doms.sets t result }
+        requires { IsNamed (vars_of self.now) t }
+        ensures is { result ≡ place_lo (box_of self.now) t }
+        ensures least { IsLeastAt (box_of self.now) t result }
+        ensures end { IsPlaceEnd (box_of self.now) t result }
     {
         self.doms.lawful();
         match t {
@@ -102,9 +127,10 @@ impl Ctx {
 
     /// The greatest value of the place.
     pub fn hi(&self, t: Term) -> i64
-        requires { IsNamed self.now.doms.sets t }
-        ensures is { result ≡ place_hi self.now.doms.sets t }
-        ensures greatest { IsGreatestAt self.now.doms.sets t result }
+        requires { IsNamed (vars_of self.now) t }
+        ensures is { result ≡ place_hi (box_of self.now) t }
+        ensures greatest { IsGreatestAt (box_of self.now) t result }
+        ensures end { IsPlaceEnd (box_of self.now) t result }
     {
         self.doms.lawful();
         match t {
@@ -116,8 +142,8 @@ impl Ctx {
 
     /// Whether `a` is a value of the place.
     pub fn has(&self, t: Term, a: i64) -> bool
-        requires { IsNamed self.now.doms.sets t }
-        ensures { IsTrue result ↔ PlaceHas self.now.doms.sets t a }
+        requires { IsNamed (vars_of self.now) t }
+        ensures { IsTrue result ↔ PlaceHas (box_of self.now) t a }
     {
         self.doms.lawful();
         match t {
@@ -129,17 +155,17 @@ impl Ctx {
 
     /// Whether the place has one value alone.
     pub fn is_single(&self, t: Term) -> bool
-        requires { IsNamed self.now.doms.sets t }
-        ensures alone { IsTrue result ↔ IsAlone self.now.doms.sets t (place_lo self.now.doms.sets t) }
-        ensures two { result ≡ false → IsOpen self.now.doms.sets t }
+        requires { IsNamed (vars_of self.now) t }
+        ensures alone { IsTrue result ↔ IsAlone (box_of self.now) t (place_lo (box_of self.now) t) }
+        ensures two { result ≡ false → IsOpen (box_of self.now) t }
     {
         self.lo(t) == self.hi(t)
     }
 
     /// The least value of the place that is greater than `a`.
     pub fn next(&self, t: Term, a: i64) -> Option<i64>
-        requires { IsNamed self.now.doms.sets t }
-        ensures { IsNextAt self.now.doms.sets t a result }
+        requires { IsNamed (vars_of self.now) t }
+        ensures { IsNextAt (box_of self.now) t a result }
     {
         self.doms.lawful();
         match t {
@@ -151,8 +177,8 @@ impl Ctx {
 
     // The same of one less a variable. Its values are tried one by one, since a 0/1 variable has two of them at most.
     fn next_turned(&self, v: VarId, a: i64) -> Option<i64>
-        requires { IsNamed self.now.doms.sets (Term.Not v) }
-        ensures { IsNextAt self.now.doms.sets (Term.Not v) a result }
+        requires { IsNamed (vars_of self.now) (Term.Not v) }
+        ensures { IsNextAt (box_of self.now) (Term.Not v) a result }
     {
         let lo = self.lo(Term::Not(v));
         let hi = self.hi(Term::Not(v));
@@ -171,8 +197,8 @@ impl Ctx {
 
     /// Whether `a` alone may be taken out of the place.
     pub fn may_remove(&self, t: Term, a: i64) -> bool
-        requires { IsNamed self.now.doms.sets t }
-        ensures { IsTrue result ↔ MayGoAt self.now.doms.vars t self.now.doms.sets a }
+        requires { IsNamed (vars_of self.now) t }
+        ensures { IsTrue result ↔ MayGoAt (vars_of self.now) t (box_of self.now) a }
     {
         self.doms.lawful();
         match t {
@@ -184,68 +210,69 @@ impl Ctx {
 
     /// Keeps the values that are at least `a`.
     pub fn set_lo(&mut self, t: Term, a: i64) -> Result<(), Fail>
-        requires { IsNamed self.old.doms.sets t }
+        requires { IsNamed (vars_of self.old) t }
         ensures { ChangedAt (λ x. int_le a x) t self.old self.new result }
     {
         self.doms.lawful();
         match t {
-            Term::Var(v) => answer(self.doms.set_lo(v, a)),
+            Term::Var(v) => answer(self.doms.set_lo(v, a), &self.doms, &mut self.moved),
             Term::Const(k) => answer_if(a <= k),
-            Term::Not(v) => answer(self.doms.set_hi(v, turned(a))),
+            Term::Not(v) => answer(self.doms.set_hi(v, turned(a)), &self.doms, &mut self.moved),
         }
     }
 
     /// Keeps the values that are at most `a`.
     pub fn set_hi(&mut self, t: Term, a: i64) -> Result<(), Fail>
-        requires { IsNamed self.old.doms.sets t }
+        requires { IsNamed (vars_of self.old) t }
         ensures { ChangedAt (λ x. int_le x a) t self.old self.new result }
     {
         self.doms.lawful();
         match t {
-            Term::Var(v) => answer(self.doms.set_hi(v, a)),
+            Term::Var(v) => answer(self.doms.set_hi(v, a), &self.doms, &mut self.moved),
             Term::Const(k) => answer_if(k <= a),
-            Term::Not(v) => answer(self.doms.set_lo(v, turned(a))),
+            Term::Not(v) => answer(self.doms.set_lo(v, turned(a)), &self.doms, &mut self.moved),
         }
     }
 
     /// Keeps `a` alone.
     pub fn assign(&mut self, t: Term, a: i64) -> Result<(), Fail>
-        requires { IsNamed self.old.doms.sets t }
+        requires { IsNamed (vars_of self.old) t }
         ensures { ChangedAt (λ x. int_eq x a) t self.old self.new result }
     {
         self.doms.lawful();
         match t {
-            Term::Var(v) => answer(self.doms.assign(v, a)),
+            Term::Var(v) => answer(self.doms.assign(v, a), &self.doms, &mut self.moved),
             Term::Const(k) => answer_if(k == a),
-            Term::Not(v) => answer(self.doms.assign(v, turned(a))),
+            Term::Not(v) => answer(self.doms.assign(v, turned(a)), &self.doms, &mut self.moved),
         }
     }
 
     /// Keeps the values other than `a`.
     pub fn remove(&mut self, t: Term, a: i64) -> Result<(), Fail>
-        requires named { IsNamed self.old.doms.sets t }
-        requires may { MayGoAt self.old.doms.vars t self.old.doms.sets a }
+        requires named { IsNamed (vars_of self.old) t }
+        requires may { MayGoAt (vars_of self.old) t (box_of self.old) a }
         ensures { ChangedAt (is_not a) t self.old self.new result }
     {
         self.doms.lawful();
         match t {
-            Term::Var(v) => answer(self.doms.remove(v, a)),
+            Term::Var(v) => answer(self.doms.remove(v, a), &self.doms, &mut self.moved),
             Term::Const(k) => answer_if(k != a),
-            Term::Not(v) => answer(self.doms.remove(v, turned(a))),
+            Term::Not(v) => answer(self.doms.remove(v, turned(a)), &self.doms, &mut self.moved),
         }
     }
 
-    /// Keeps a copy of all sets.
+    /// Keeps a copy of the state.
     pub fn save(&mut self) -> Result<(), AllocError>
-        ensures ok { OnOk result (self.new.doms ≡ record self.old.doms { saved = self.old.doms.saved ++ self.old.doms.sets ∷ [] }) }
+        ensures ok { OnOk result (self.new ≡ record self.old { doms = saved_now self.old.doms }) }
         ensures err { OnErr result (self.new ≡ self.old) }
     {
         self.doms.save()
     }
 
-    /// Goes back to the sets that were saved last. False exactly where none are saved.
+    /// Goes back to the state that was saved last. False exactly where none is saved.
     pub fn restore(&mut self) -> bool
-        ensures { Restored self.old.doms self.new.doms result }
+        ensures restored { Restored self.old.doms self.new.doms result }
+        ensures moved { self.new.moved ≡ self.old.moved }
     {
         self.doms.restore()
     }

@@ -1,65 +1,104 @@
-use Rattle.std.proofs.Common.{◌≡◌, ◌<◌, Some, length, refl, slice_get, subst, arith}
+use Rattle.std.proofs.Common.{◌≡◌, ◌<◌, ◌∙◌, Some, ap, length, map, refl, slice_get, subst, sym, true, arith}
+use Rattle.std.proofs.lemmas.List.{length-map}
 use Rattle.std.proofs.lemmas.Option.{slice_get_read}
+use Rattle.mn_prop.specs.Contexts.{box_of, vars_of}
+use Rattle.mn_prop.specs.Posts.{ClosedUnder}
+use Rattle.mn_prop.proofs.Stepping.{taken_vars}
 use Rattle.mn_engine.specs.Settling.{ComesAt}
-use Rattle.mn_engine.proofs.Rounding.{alike_length, alike_set, all_passed, comes_within, fails, is_ready, none_passed, passes}
+use Rattle.mn_engine.proofs.Rounding.{comes_within, first_closed, is_ready, none_onward, none_passed, passed, posted_at, posted_set, taken_onward}
 use Rattle.mn_engine.proofs.rounds.pass_all.Goals as goal
 
 pub loop-i-init : goal.loop-i-init
-loop-i-init g c = none_passed g.P.Runner.con g.P.Runner.lists c.args.back c.args.runners.now.items c.args.c.now.doms
+loop-i-init g c =
+    let posts = map g.P.Scoped.posted c.args.runners.now.items in
+    let long : length posts ≡ length c.args.runners.now.items = length-map c.args.runners.now.items g.P.Scoped.posted in
+    record { posted = refl; passing = none_passed (omega (arith, long, c.requires.within)) c.requires.closed }
 
 pub pass-requires : goal.pass-requires
 pass-requires g c =
+    let posted_of = g.P.Scoped.posted in
     let xs = c.args.runners.now.items in
     let ys = c.loop-i.runners.items in
+    let posts = map posted_of xs in
+    let long : length posts ≡ length xs = length-map xs posted_of in
     let size : c.len-len.result ≡ length xs = omega (arith, c.len-len.ensures, c.args.runners.now.ok.0) in
-    let long = alike_length g.P.Runner.con g.P.Runner.lists xs ys c.loop-i.invariant.alike in
-    let comes = subst (λ n. ComesAt c.args.back n c.loop-i.i c.place.result) size c.place.ensures in
-    let below : c.place.result < length xs = comes_within c.args.back (length xs) c.loop-i.i c.place.result (omega (arith, size, c.loop-i-test.true)) comes in
-    let within : c.place.result < length ys = omega (arith, long, below) in
-    let at : slice_get ys c.place.result ≡ Some c.index_mut.result.now = slice_get_read ys (length ys) c.place.result c.index_mut.result.now refl within c.index_mut.ensures.value in
-    record { ready = is_ready g.P.Runner.con g.P.Runner.lists c.args.back xs ys c.args.c.now.doms c.loop-i.c.doms c.loop-i.i c.place.result c.index_mut.result.now c.loop-i.invariant c.requires at }
+    let same : length ys ≡ length xs = sym (length-map ys posted_of) ∙ (ap length c.loop-i.invariant.posted ∙ long) in
+    let below : c.loop-i.i < length posts = omega (arith, size, long, c.loop-i-test.true) in
+    let comes = subst (λ n. ComesAt c.args.back n c.loop-i.i c.place-at.result) (size ∙ sym long) c.place-at.ensures in
+    let within : c.place-at.result < length ys = let m = comes_within c.args.back (length posts) c.loop-i.i c.place-at.result below comes in omega (arith, m, long, same) in
+    let at : slice_get ys c.place-at.result ≡ Some c.index_mut.result.now = slice_get_read ys (length ys) c.place-at.result c.index_mut.result.now refl within c.index_mut.ensures.value in
+    let here : slice_get posts c.place-at.result ≡ Some (posted_of c.index_mut.result.now) = subst (λ ps. slice_get ps c.place-at.result ≡ Some (posted_of c.index_mut.result.now)) c.loop-i.invariant.posted (posted_at posted_of ys c.place-at.result c.index_mut.result.now at) in
+    record { ready = is_ready (taken_vars c.loop-i.invariant.passing.onward.takes) c.requires.ready here }
 
-pub returns-in_err-pass-clause-alike : goal.returns-in_err-pass-clause-alike
-returns-in_err-pass-clause-alike g c =
+pub returns-in_err-pass-clause-posted : goal.returns-in_err-pass-clause-posted
+returns-in_err-pass-clause-posted g c =
+    let posted_of = g.P.Scoped.posted in
     let xs = c.args.runners.now.items in
     let ys = c.loop-i.runners.items in
+    let posts = map posted_of xs in
+    let long : length posts ≡ length xs = length-map xs posted_of in
     let size : c.len-len.result ≡ length xs = omega (arith, c.len-len.ensures, c.args.runners.now.ok.0) in
-    let long = alike_length g.P.Runner.con g.P.Runner.lists xs ys c.loop-i.invariant.alike in
-    let comes = subst (λ n. ComesAt c.args.back n c.loop-i.i c.place.result) size c.place.ensures in
-    let below : c.place.result < length xs = comes_within c.args.back (length xs) c.loop-i.i c.place.result (omega (arith, size, c.loop-i-test.true)) comes in
-    let within : c.place.result < length ys = omega (arith, long, below) in
-    let at : slice_get ys c.place.result ≡ Some c.index_mut.result.now = slice_get_read ys (length ys) c.place.result c.index_mut.result.now refl within c.index_mut.ensures.value in
-    alike_set g.P.Runner.con g.P.Runner.lists xs ys c.place.result c.index_mut.result.now c.pass.new.self c.loop-i.invariant.alike at c.pass.ensures.con c.pass.ensures.lists
+    let same : length ys ≡ length xs = sym (length-map ys posted_of) ∙ (ap length c.loop-i.invariant.posted ∙ long) in
+    let below : c.loop-i.i < length posts = omega (arith, size, long, c.loop-i-test.true) in
+    let comes = subst (λ n. ComesAt c.args.back n c.loop-i.i c.place-at.result) (size ∙ sym long) c.place-at.ensures in
+    let within : c.place-at.result < length ys = let m = comes_within c.args.back (length posts) c.loop-i.i c.place-at.result below comes in omega (arith, m, long, same) in
+    let at : slice_get ys c.place-at.result ≡ Some c.index_mut.result.now = slice_get_read ys (length ys) c.place-at.result c.index_mut.result.now refl within c.index_mut.ensures.value in
+    let here : slice_get posts c.place-at.result ≡ Some (posted_of c.index_mut.result.now) = subst (λ ps. slice_get ps c.place-at.result ≡ Some (posted_of c.index_mut.result.now)) c.loop-i.invariant.posted (posted_at posted_of ys c.place-at.result c.index_mut.result.now at) in
+    posted_set posted_of ys c.place-at.result c.index_mut.result.now c.pass.new.self at c.pass.ensures.posted ∙ c.loop-i.invariant.posted
 
-pub returns-in_err-pass-clause-step : goal.returns-in_err-pass-clause-step
-returns-in_err-pass-clause-step g c =
+pub returns-in_err-pass-clause-takes : goal.returns-in_err-pass-clause-takes
+returns-in_err-pass-clause-takes g c =
+    let posted_of = g.P.Scoped.posted in
     let xs = c.args.runners.now.items in
     let ys = c.loop-i.runners.items in
+    let posts = map posted_of xs in
+    let long : length posts ≡ length xs = length-map xs posted_of in
     let size : c.len-len.result ≡ length xs = omega (arith, c.len-len.ensures, c.args.runners.now.ok.0) in
-    let long = alike_length g.P.Runner.con g.P.Runner.lists xs ys c.loop-i.invariant.alike in
-    let comes = subst (λ n. ComesAt c.args.back n c.loop-i.i c.place.result) size c.place.ensures in
-    let below : c.place.result < length xs = comes_within c.args.back (length xs) c.loop-i.i c.place.result (omega (arith, size, c.loop-i-test.true)) comes in
-    let within : c.place.result < length ys = omega (arith, long, below) in
-    let at : slice_get ys c.place.result ≡ Some c.index_mut.result.now = slice_get_read ys (length ys) c.place.result c.index_mut.result.now refl within c.index_mut.ensures.value in
-    fails g.P.Runner.con g.P.Runner.lists c.args.back xs ys c.args.c.now.doms c.loop-i.c.doms c.pass.new.c.doms c.loop-i.i c.place.result c.index_mut.result.now c.in_err-pass.field-0.0 c.from_residual.result c.loop-i.invariant at c.in_err-pass.ensures.step c.from_residual.ensures.0
+    let same : length ys ≡ length xs = sym (length-map ys posted_of) ∙ (ap length c.loop-i.invariant.posted ∙ long) in
+    let below : c.loop-i.i < length posts = omega (arith, size, long, c.loop-i-test.true) in
+    let comes = subst (λ n. ComesAt c.args.back n c.loop-i.i c.place-at.result) (size ∙ sym long) c.place-at.ensures in
+    let within : c.place-at.result < length ys = let m = comes_within c.args.back (length posts) c.loop-i.i c.place-at.result below comes in omega (arith, m, long, same) in
+    let at : slice_get ys c.place-at.result ≡ Some c.index_mut.result.now = slice_get_read ys (length ys) c.place-at.result c.index_mut.result.now refl within c.index_mut.ensures.value in
+    let here : slice_get posts c.place-at.result ≡ Some (posted_of c.index_mut.result.now) = subst (λ ps. slice_get ps c.place-at.result ≡ Some (posted_of c.index_mut.result.now)) c.loop-i.invariant.posted (posted_at posted_of ys c.place-at.result c.index_mut.result.now at) in
+    taken_onward c.loop-i.invariant.passing.onward here c.pass.ensures.step
+
+pub returns-in_err-pass-clause-fail : goal.returns-in_err-pass-clause-fail
+returns-in_err-pass-clause-fail g c =
+    let posted_of = g.P.Scoped.posted in
+    let xs = c.args.runners.now.items in
+    let ys = c.loop-i.runners.items in
+    let posts = map posted_of xs in
+    let long : length posts ≡ length xs = length-map xs posted_of in
+    let size : c.len-len.result ≡ length xs = omega (arith, c.len-len.ensures, c.args.runners.now.ok.0) in
+    let same : length ys ≡ length xs = sym (length-map ys posted_of) ∙ (ap length c.loop-i.invariant.posted ∙ long) in
+    let below : c.loop-i.i < length posts = omega (arith, size, long, c.loop-i-test.true) in
+    let comes = subst (λ n. ComesAt c.args.back n c.loop-i.i c.place-at.result) (size ∙ sym long) c.place-at.ensures in
+    let within : c.place-at.result < length ys = let m = comes_within c.args.back (length posts) c.loop-i.i c.place-at.result below comes in omega (arith, m, long, same) in
+    let at : slice_get ys c.place-at.result ≡ Some c.index_mut.result.now = slice_get_read ys (length ys) c.place-at.result c.index_mut.result.now refl within c.index_mut.ensures.value in
+    let here : slice_get posts c.place-at.result ≡ Some (posted_of c.index_mut.result.now) = subst (λ ps. slice_get ps c.place-at.result ≡ Some (posted_of c.index_mut.result.now)) c.loop-i.invariant.posted (posted_at posted_of ys c.place-at.result c.index_mut.result.now at) in
+    none_onward c.loop-i.invariant.passing.onward here c.in_err-pass.ensures.step
 
 pub loop-i-preserved : goal.loop-i-preserved
 loop-i-preserved g c =
+    let posted_of = g.P.Scoped.posted in
     let xs = c.args.runners.now.items in
     let ys = c.loop-i.runners.items in
+    let posts = map posted_of xs in
+    let long : length posts ≡ length xs = length-map xs posted_of in
     let size : c.len-len.result ≡ length xs = omega (arith, c.len-len.ensures, c.args.runners.now.ok.0) in
-    let long = alike_length g.P.Runner.con g.P.Runner.lists xs ys c.loop-i.invariant.alike in
-    let comes = subst (λ n. ComesAt c.args.back n c.loop-i.i c.place.result) size c.place.ensures in
-    let below : c.place.result < length xs = comes_within c.args.back (length xs) c.loop-i.i c.place.result (omega (arith, size, c.loop-i-test.true)) comes in
-    let within : c.place.result < length ys = omega (arith, long, below) in
-    let at : slice_get ys c.place.result ≡ Some c.index_mut.result.now = slice_get_read ys (length ys) c.place.result c.index_mut.result.now refl within c.index_mut.ensures.value in
-    passes g.P.Runner.con g.P.Runner.lists c.args.back xs ys c.args.c.now.doms c.loop-i.c.doms c.pass.new.c.doms c.loop-i.i c.place.result c.index_mut.result.now c.pass.new.self c.in_ok-pass.field-0 c.loop-i.invariant c.lawful.ensures.boxes.now c.lawful-in-loop-i.ensures.boxes.now comes at c.pass.ensures.con c.pass.ensures.lists c.in_ok-pass.ensures.step
+    let same : length ys ≡ length xs = sym (length-map ys posted_of) ∙ (ap length c.loop-i.invariant.posted ∙ long) in
+    let below : c.loop-i.i < length posts = omega (arith, size, long, c.loop-i-test.true) in
+    let comes = subst (λ n. ComesAt c.args.back n c.loop-i.i c.place-at.result) (size ∙ sym long) c.place-at.ensures in
+    let within : c.place-at.result < length ys = let m = comes_within c.args.back (length posts) c.loop-i.i c.place-at.result below comes in omega (arith, m, long, same) in
+    let at : slice_get ys c.place-at.result ≡ Some c.index_mut.result.now = slice_get_read ys (length ys) c.place-at.result c.index_mut.result.now refl within c.index_mut.ensures.value in
+    let here : slice_get posts c.place-at.result ≡ Some (posted_of c.index_mut.result.now) = subst (λ ps. slice_get ps c.place-at.result ≡ Some (posted_of c.index_mut.result.now)) c.loop-i.invariant.posted (posted_at posted_of ys c.place-at.result c.index_mut.result.now at) in
+    record {
+      posted = posted_set posted_of ys c.place-at.result c.index_mut.result.now c.pass.new.self at c.pass.ensures.posted ∙ c.loop-i.invariant.posted;
+      passing = passed c.loop-i.invariant.passing below comes here c.in_ok-pass.ensures.step _ _ refl (λ settles. c.in_ok-pass.ensures.settled settles);
+    }
 
-pub returns-clause-alike : goal.returns-clause-alike
-returns-clause-alike g c = c.loop-i.invariant.alike
-
-pub returns-clause-step : goal.returns-clause-step
-returns-clause-step g c =
-    let xs = c.args.runners.now.items in
-    let size : c.len-len.result ≡ length xs = omega (arith, c.len-len.ensures, c.args.runners.now.ok.0) in
-    all_passed g.P.Runner.con g.P.Runner.lists c.args.back xs c.loop-i.runners.items c.args.c.now.doms c.loop-i.c.doms c.loop-i.i (omega (arith, size, c.loop-i-test.false)) c.loop-i.invariant
+pub returns-clause-closed : goal.returns-clause-closed
+returns-clause-closed g c =
+    let posts = map g.P.Scoped.posted c.args.runners.now.items in
+    let long : length posts ≡ length c.args.runners.now.items = length-map c.args.runners.now.items g.P.Scoped.posted in
+    first_closed c.loop-i.invariant.passing (omega (arith, long, c.len-len.ensures, c.args.runners.now.ok.0, c.loop-i-test.false))

@@ -1,9 +1,11 @@
+use Rattle.std.proofs.Common.{map}
 use Rattle.mn_boxes.specs.Boxes.{count_of}
+use Rattle.mn_prop.specs.Contexts.{box_of}
 use Rattle.mn_engine.proofs.Rounding.{Rounds}
 use Rattle.mn_engine.proofs.rounds.settle_all.Given as goal
 
 abbrev pub invariant-loop-c : goal.invariant-loop-c
-invariant-loop-c g l = Rounds g.P.Runner.con g.P.Runner.lists l.initial.runners.items l.runners.items l.initial.c.doms l.c.doms
+invariant-loop-c g l = Rounds l.back (map g.P.Scoped.posted l.initial.runners.items) (map g.P.Scoped.posted l.runners.items) l.initial.c l.c l.closed
 
 abbrev pub decreases-loop-c : goal.decreases-loop-c
-decreases-loop-c g l = count_of l.c.doms.sets
+decreases-loop-c g l = count_of (box_of l.c)

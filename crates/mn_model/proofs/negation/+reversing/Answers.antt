@@ -27,7 +27,7 @@ reverse-returns-in_ok-reversed-in-Reifyimply t c =
     subst (λ n. IfOk c.in_force_without.result (λ reversed. reversed ≡ n)) whole c.in_force_without.ensures
 
 pub reverse-returns-in-Negated : goal.reverse-returns-in-Negated
-reverse-returns-in-Negated t c = subst (λ n. IfOk c.copy-in-Negated.result (λ reversed. reversed ≡ n)) (c.get-in-Negated.ensures ∙ sym (negation_negated c.args.con.now c.in-Negated.part c.in-Negated.is)) c.copy-in-Negated.ensures
+reverse-returns-in-Negated t c = subst (λ n. IfOk c.copy.result (λ reversed. reversed ≡ n)) (c.get-in-Negated.ensures ∙ sym (negation_negated c.args.con.now c.in-Negated.part c.in-Negated.is)) c.copy.ensures
 
 pub reverse_each-reverse-requires : goal.reverse_each-reverse-requires
 reverse_each-reverse-requires t c =

@@ -33,7 +33,7 @@ pub returns-then-not-has : goal.returns-then-not-has
 returns-then-not-has c =
     let k = known c.self.inside.listed.items c.self.inside.shapes.items c.self.inside.current c.self.inside.saved.items c.args.self.now (number_of c.args.v) c.index-shape.result.now c.index-ends.result.now c.self.view_is c.self.invariant c.requires (rw c.number-i.ensures at c.index-shape.ensures) (rw c.number-i.ensures at c.index-ends.ensures) in
     let told = rw (c.as_slice-listed.ensures.value, c.as_slice-bits.ensures.value, to_z-of_z w64 c.args.a c.ranges.a) at c.has.ensures in
-    (none_equal (set_of c.args.self.now.sets (number_of c.args.v)) c.args.a (λ has. true≢false (sym (told.1 (rw k.set at has)) ∙ c.if-not-has.true)), refl)
+    (none_equal (set_of c.args.self.now.now.sets (number_of c.args.v)) c.args.a (λ has. true≢false (sym (told.1 (rw k.set at has)) ∙ c.if-not-has.true)), refl)
 
 pub only-alone-requires-clause-shape : goal.only-alone-requires-clause-shape
 only-alone-requires-clause-shape c =

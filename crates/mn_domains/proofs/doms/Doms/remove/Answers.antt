@@ -81,7 +81,7 @@ without-rest-requires-clause-outer c =
     let k = known c.self.inside.listed.items c.self.inside.shapes.items c.self.inside.current c.self.inside.saved.items c.args.self.now (number_of c.args.v) c.index-shape.result.now c.index.result.now c.self.view_is c.self.invariant c.requires.within (rw c.number-i.ensures at c.index-shape.ensures) (rw c.number-i.ensures at c.index.ensures) in
     let bounded = rw (to_z-of_z w64 c.args.a c.ranges.a) at c.in-None.ensures.bit in
     rw (c.as_slice-listed.ensures.value, c.as_slice-bits.ensures.value, to_z-of_z w64 c.args.a c.ranges.a)
-    (inner_stays c.self.inside.listed.items c.self.inside.current.bits.items c.index-shape.result.now c.index.result.now c.args.a (variable_at c.args.self.now.vars (number_of c.args.v)) (set_of c.args.self.now.sets (number_of c.args.v)) k.set k.var c.requires.may k.held.ends bounded)
+    (inner_stays c.self.inside.listed.items c.self.inside.current.bits.items c.index-shape.result.now c.index.result.now c.args.a (variable_at c.args.self.now.vars (number_of c.args.v)) (set_of c.args.self.now.now.sets (number_of c.args.v)) k.set k.var c.requires.may k.held.ends bounded)
 
 pub put-requires-clause-here : goal.put-requires-clause-here
 put-requires-clause-here c =

@@ -35,7 +35,7 @@ pub invariant_of-self-2 : goal.invariant_of-self-2
 invariant_of-self-2 c =
     let fresh = subst (λ (p : Problem). declared_as p.decls c.args.name ≡ None) (sym c.self.view_is) c.requires.fresh in
     let unused = subst (λ (p : Problem). aliased_as p.aliases c.args.name ≡ None) (sym c.self.view_is) c.requires.unused in
-    let key = c.in_ok-key.ensures ∙ c.as_slice.ensures in
+    let key = c.in_ok-key.ensures ∙ c.as_slice-2.ensures in
     let names = c.self.inside.names.entries in
     let none : get string_eq c.self.inside.names c.in_ok-key.key ≡ None =
     lookup-entries_read (string_bytes c.in_ok-key.key) names
@@ -45,7 +45,7 @@ invariant_of-self-2 c =
     let owned = c.in_ok-resize.ensures.items
     ∙ (ap (λ k. take (c.len-2.result + c.size_of-size.result) c.reserve.new.self.items ++ replicate (c.len-2.result + c.size_of-size.result - k) c.len-place.result) c.reserve.new.self.ok.0
     ∙ owned-push c.reserve.new.self.items c.self.inside.decls.items (new c) c.len-place.result (c.len-2.result + c.size_of-size.result)
-    (c.reserve.ensures.items ∙ c.self.invariant.owned) at (omega (arith, c.len-2.ensures, c.reserve.new.self.ok.0, c.size_of-size.ensures))) in
+    (c.reserve.ensures.items ∙ c.self.invariant.owned) at (omega (arith, c.len-2.ensures, c.reserve.new.self.ok.0, c.size_of-size.ensures, ap size_of_dims c.as_slice.ensures))) in
     IsKept-declare _ names c.self.inside.lists.entries c.self.inside.owners.items c.self.inside.cells c.self.invariant
     (new c) c.push.new.self.items c.insert.new.self.entries c.resize.new.self.items c.len-place.result (declared c)
     (record { named = c.requires.named; shaped = c.requires.shaped; domain = c.lawful.ensures; suits = c.requires.suits }) fresh unused (first c)

@@ -1,10 +1,10 @@
 use Rattle.std.proofs.Common.{FitsSigned, pos, ◌-ℤ◌, rules, w64}
 use Rattle.std.proofs.lemmas.Int.{to_z-of_z}
 use Rattle.mn_model.specs.Variable.{number_of}
-use Rattle.mn_model.specs.declared.constraint.Term.TheVariants.{Var, Not}
 use Rattle.mn_boxes.specs.Boxes.{set_of}
 use Rattle.mn_boxes.proofs.Quiet.{ascends_at}
 use Rattle.mn_boxes.proofs.Members.{stands_last}
+use Rattle.mn_prop.specs.Contexts.{box_of}
 use Rattle.mn_prop.proofs.PlaceLemmas.{TellsLow, low_not, low_var, seen_at}
 use Rattle.mn_prop.proofs.Valued.{less_fits, valued_at}
 use Rattle.mn_prop.proofs.context.Ctx.lo.Goals as goal
@@ -13,23 +13,23 @@ pub overflow_sub-result : goal.overflow_sub-result
 overflow_sub-result c =
     let d = c.self.inside.doms in
     let fits : FitsSigned w64 c.hi.result = search rules in
-    let ends = stands_last (set_of d.sets (number_of c.in-Not.v)) c.hi.result (ascends_at d.vars d.sets (number_of c.in-Not.v) c.lawful.ensures.now) c.hi.ensures in
-    rw (to_z-of_z w64 c.hi.result fits) (less_fits c.hi.result (valued_at d.vars d.sets (number_of c.in-Not.v) c.hi.result c.lawful.ensures.now c.self.invariant ends.has))
+    let ends = stands_last (set_of d.now.sets (number_of c.in-Not.v)) c.hi.result (ascends_at d.vars d.now.sets (number_of c.in-Not.v) c.lawful.ensures.now) c.hi.ensures in
+    rw (to_z-of_z w64 c.hi.result fits) (less_fits c.hi.result (valued_at d.vars d.now.sets (number_of c.in-Not.v) c.hi.result c.lawful.ensures.now c.self.invariant ends.has))
 
 pub returns-in-Var : goal.returns-in-Var
 returns-in-Var c =
     let d = c.self.inside.doms in
     let fits : FitsSigned w64 c.lo.result = search rules in
-    let up = ascends_at d.vars d.sets (number_of c.in-Var.v) c.lawful.ensures.now in
-    let tells = seen_at (λ s t. TellsLow s.sets t c.lo.result) d c.args.self.now c.args.t (Var c.in-Var.v) c.self.view_is c.in-Var.is (low_var d.sets c.in-Var.v c.lo.result up c.lo.ensures) in
-    rw (to_z-of_z w64 c.lo.result fits) (record { is = tells.is; least = tells.least })
+    let up = ascends_at d.vars d.now.sets (number_of c.in-Var.v) c.lawful.ensures.now in
+    let tells = seen_at (λ s t. TellsLow (box_of s) t c.lo.result) c.self.view_is c.in-Var.is (low_var d.now.sets c.in-Var.v c.lo.result up c.lo.ensures) in
+    rw (to_z-of_z w64 c.lo.result fits) (record { is = tells.is; least = tells.least; end = tells.end })
 
 pub returns-in-Not : goal.returns-in-Not
 returns-in-Not c =
     let d = c.self.inside.doms in
     let fits : FitsSigned w64 c.hi.result = search rules in
-    let up = ascends_at d.vars d.sets (number_of c.in-Not.v) c.lawful.ensures.now in
-    let ends = stands_last (set_of d.sets (number_of c.in-Not.v)) c.hi.result up c.hi.ensures in
-    let fits_less = less_fits c.hi.result (valued_at d.vars d.sets (number_of c.in-Not.v) c.hi.result c.lawful.ensures.now c.self.invariant ends.has) in
-    let tells = seen_at (λ s t. TellsLow s.sets t (pos 1 -ℤ c.hi.result)) d c.args.self.now c.args.t (Not c.in-Not.v) c.self.view_is c.in-Not.is (low_not d.sets c.in-Not.v c.hi.result up c.hi.ensures) in
-    rw (to_z-of_z w64 c.hi.result fits, to_z-of_z w64 (pos 1 -ℤ c.hi.result) fits_less) (record { is = tells.is; least = tells.least })
+    let up = ascends_at d.vars d.now.sets (number_of c.in-Not.v) c.lawful.ensures.now in
+    let ends = stands_last (set_of d.now.sets (number_of c.in-Not.v)) c.hi.result up c.hi.ensures in
+    let fits_less = less_fits c.hi.result (valued_at d.vars d.now.sets (number_of c.in-Not.v) c.hi.result c.lawful.ensures.now c.self.invariant ends.has) in
+    let tells = seen_at (λ s t. TellsLow (box_of s) t (pos 1 -ℤ c.hi.result)) c.self.view_is c.in-Not.is (low_not d.now.sets c.in-Not.v c.hi.result up c.hi.ensures) in
+    rw (to_z-of_z w64 c.hi.result fits, to_z-of_z w64 (pos 1 -ℤ c.hi.result) fits_less) (record { is = tells.is; least = tells.least; end = tells.end })

@@ -1,4 +1,0 @@
-use Rattle.mn_basic.proofs.whole.WholeLeaf.supported.Goals as goal
-
-pub holds_with-requires-clause-left : goal.holds_with-requires-clause-left
-holds_with-requires-clause-left c = (c.requires.place, c.is_other_open.ensures.alone c.if-is_other_open.false)

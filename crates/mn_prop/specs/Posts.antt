@@ -1,0 +1,57 @@
+-- The constraint that a propagator narrows.
+use Rattle.std.specs.Prelude.{◌≡◌, ℕ, ℤ, true, List}
+use Rattle.mn_model.specs.Lawful.{IsLawfulCon, IsMeant}
+use Rattle.mn_model.specs.Problem.{domains_of}
+use Rattle.mn_model.specs.Variable.{number_of}
+use Rattle.mn_model.specs.declared.constraint.Con.{Con}
+use Rattle.mn_model.specs.declared.constraint.Term.{Term}
+use Rattle.mn_model.specs.declared.constraint.Term.TheVariants.{Var, Const, Not}
+use Rattle.mn_model.specs.declared.declaration.Decl.{Decl}
+use Rattle.mn_model.specs.declared.declaration.Tuples.{Tuples}
+use Rattle.mn_boxes.specs.Boxes.{declared_variables}
+use Rattle.mn_boxes.specs.Places.{PlaceHas}
+use Rattle.mn_boxes.specs.Sets.{Variable}
+use Rattle.mn_closure.specs.Closed.{Closed, LeafClosed}
+use Rattle.mn_closure.specs.Laws.{Suits}
+use Rattle.mn_closure.specs.Supports.{StandsAt}
+
+-- a constraint, and the lists that it may name
+pub record Posted : Type 0 where
+  pub con : Con
+  pub lists : List Tuples
+
+abbrev pub beside : List Tuples → Con → Posted
+beside lists c = record { con = c; lists = lists }
+
+-- what a constraint keeps beside variables and tuple lists, so that it can be propagated: every lawful one does
+pub record IsReady (vars : List Variable) (lists : List Tuples) (c : Con) : Type 0 where
+  pub suits : Suits vars c
+  pub meant : IsMeant lists c
+
+-- it is ready to be propagated
+abbrev pub IsReadyToRun : List Variable → Posted → Type 0
+IsReadyToRun vars posted = IsReady vars posted.lists posted.con
+
+-- the box is closed under the constraint, and under it as a leaf
+abbrev pub ClosedUnder : List Variable → Posted → List (List ℤ) → Type 0
+ClosedUnder vars posted box = Closed vars posted.lists posted.con true box
+
+abbrev pub ClosedUnderLeaf : List Variable → Posted → List (List ℤ) → Type 0
+ClosedUnderLeaf vars posted box = LeafClosed vars posted.lists posted.con box
+
+-- every lawful constraint is ready beside its declarations
+abbrev pub LawfulIsReady : Type 0
+LawfulIsReady = (decls : List Decl) (lists : List Tuples) (c : Con) → IsLawfulCon (domains_of decls) lists c → IsReady (declared_variables decls) lists c
+
+-- a is a value of the constraint's place i
+abbrev pub HasAt : Con → ℕ → ℤ → List (List ℤ) → Type 0
+HasAt c i a box = (t : Term) → StandsAt c i t → PlaceHas box t a
+
+-- the term names the variable, and no place of the constraint does
+abbrev pub Names : Term → ℕ → Type 0
+Names (Var w) v = number_of w ≡ v
+Names (Const k) v = ⊥
+Names (Not w) v = number_of w ≡ v
+
+abbrev pub NamesNot : Con → ℕ → Type 0
+NamesNot c v = (i : ℕ) (t : Term) → StandsAt c i t → Names t v → ⊥
