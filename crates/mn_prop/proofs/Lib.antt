@@ -6,7 +6,6 @@ pub mod Flags
 pub mod Going
 pub mod Narrowing
 pub mod PlaceLemmas
-pub mod Placed
 pub mod Ready
 pub mod Revisions
 pub mod Stepping

@@ -1,26 +1,16 @@
--- What lawful constraints keep, and what is known of their places.
+-- What is known of the places of a constraint that is ready.
 use Rattle.std.proofs.Common.{◌≡◌, ℕ, zero, suc, List, [], ◌∷◌, slice_get, Some, subst, arith}
 use Rattle.std.proofs.lemmas.List.{length-map}
 use Rattle.std.specs.List.{AllByRecursion}
-use Rattle.mn_model.specs.Lawful.{IsLawfulCon, IsLawfulTerm}
+use Rattle.mn_model.specs.Lawful.{IsLawfulTerm}
 use Rattle.mn_model.specs.Parts.{places}
-use Rattle.mn_model.specs.Problem.{domains_of}
-use Rattle.mn_model.specs.declared.constraint.Con.{Con}
 use Rattle.mn_model.specs.declared.constraint.Term.{Term}
 use Rattle.mn_model.specs.declared.constraint.Term.TheVariants.{Var, Const, Not}
-use Rattle.mn_model.specs.declared.declaration.Decl.{Decl}
-use Rattle.mn_model.specs.declared.declaration.Tuples.{Tuples}
-use Rattle.mn_boxes.specs.Boxes.{declared_variables}
 use Rattle.mn_boxes.specs.Sets.{Variable}
-use Rattle.mn_meaning.proofs.Meant.{lawful_meant}
 use Rattle.mn_closure.specs.Laws.{declared_sets}
 use Rattle.mn_closure.specs.Supports.{StandsAt}
-use Rattle.mn_closure.proofs.Solving.{lawful_suits}
 use Rattle.mn_prop.specs.Contexts.{IsNamed}
-use Rattle.mn_prop.specs.Posts.{IsReady, IsReadyToRun, Posted}
-
-pub lawful_ready : (decls : List Decl) (lists : List Tuples) (c : Con) → IsLawfulCon (domains_of decls) lists c → IsReady (declared_variables decls) lists c
-lawful_ready decls lists c lawful = record { suits = lawful_suits decls lists c lawful; meant = lawful_meant (domains_of decls) lists c lawful }
+use Rattle.mn_prop.specs.Posts.{IsReadyToRun, Posted}
 
 lawful_named : (vars : List Variable) (t : Term) → IsLawfulTerm (declared_sets vars) t → IsNamed vars t
 lawful_named vars (Var v) known = omega (arith, length-map vars (λ (var : Variable). var.declared), known)

@@ -1,18 +1,14 @@
 -- The constraint that a propagator narrows.
 use Rattle.std.specs.Prelude.{◌≡◌, ℕ, ℤ, true, List}
-use Rattle.mn_model.specs.Lawful.{IsLawfulCon, IsMeant}
-use Rattle.mn_model.specs.Problem.{domains_of}
 use Rattle.mn_model.specs.Variable.{number_of}
 use Rattle.mn_model.specs.declared.constraint.Con.{Con}
 use Rattle.mn_model.specs.declared.constraint.Term.{Term}
 use Rattle.mn_model.specs.declared.constraint.Term.TheVariants.{Var, Const, Not}
-use Rattle.mn_model.specs.declared.declaration.Decl.{Decl}
 use Rattle.mn_model.specs.declared.declaration.Tuples.{Tuples}
-use Rattle.mn_boxes.specs.Boxes.{declared_variables}
 use Rattle.mn_boxes.specs.Places.{PlaceHas}
 use Rattle.mn_boxes.specs.Sets.{Variable}
 use Rattle.mn_closure.specs.Closed.{Closed, LeafClosed}
-use Rattle.mn_closure.specs.Laws.{Suits}
+pub use Rattle.mn_closure.specs.Ready.{IsReady}
 use Rattle.mn_closure.specs.Supports.{StandsAt}
 
 -- a constraint, and the lists that it may name
@@ -22,11 +18,6 @@ pub record Posted : Type 0 where
 
 abbrev pub beside : List Tuples → Con → Posted
 beside lists c = record { con = c; lists = lists }
-
--- what a constraint keeps beside variables and tuple lists, so that it can be propagated: every lawful one does
-pub record IsReady (vars : List Variable) (lists : List Tuples) (c : Con) : Type 0 where
-  pub suits : Suits vars c
-  pub meant : IsMeant lists c
 
 -- it is ready to be propagated
 abbrev pub IsReadyToRun : List Variable → Posted → Type 0
@@ -38,10 +29,6 @@ ClosedUnder vars posted box = Closed vars posted.lists posted.con true box
 
 abbrev pub ClosedUnderLeaf : List Variable → Posted → List (List ℤ) → Type 0
 ClosedUnderLeaf vars posted box = LeafClosed vars posted.lists posted.con box
-
--- every lawful constraint is ready beside its declarations
-abbrev pub LawfulIsReady : Type 0
-LawfulIsReady = (decls : List Decl) (lists : List Tuples) (c : Con) → IsLawfulCon (domains_of decls) lists c → IsReady (declared_variables decls) lists c
 
 -- a is a value of the constraint's place i
 abbrev pub HasAt : Con → ℕ → ℤ → List (List ℤ) → Type 0

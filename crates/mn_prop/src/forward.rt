@@ -9,7 +9,6 @@ ghost use Rattle.mn_prop.specs.Posts.{ClosedUnderLeaf, HasAt, IsReadyToRun, besi
 ghost use Rattle.mn_prop.specs.Trials.{FitsForwardCheck, HasOneAt, IsLeft, OthersAlone};
 
 use crate::context::{Ctx, Fail};
-use crate::placing::places_in;
 use crate::revising::revise;
 use crate::runner::Scoped;
 use crate::support::SupportTest;
@@ -38,7 +37,7 @@ impl<'a> ForwardCheck<'a> {
         requires { FitsForwardCheck con.now }
         ensures { IfOk result (λ f. beside f.lists.now f.con.now ≡ beside inst.now.tuples con.now) }
     {
-        let terms = places_in(alloc, con)?;
+        let terms = con.places(alloc)?;
         Ok(ForwardCheck {
             con,
             lists: inst.tuples(),

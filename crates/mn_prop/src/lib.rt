@@ -12,8 +12,6 @@
 
 mod context;
 mod forward;
-mod laws;
-mod placing;
 mod revising;
 mod runner;
 mod support;
@@ -21,7 +19,6 @@ mod trial;
 
 pub use context::{Ctx, Fail};
 pub use forward::ForwardCheck;
-pub use laws::lawful_constraints_are_ready;
 pub use revising::{revise, revise_all};
 pub use runner::{Make, Runner, Scoped};
 pub use std::alloc::AllocError as NoMemory;
