@@ -5,8 +5,8 @@ ghost use Rattle.std.specs.Ordering.{int_eq};
 ghost use Rattle.mn_model.specs.Domain.{Has, IsValue};
 ghost use Rattle.mn_domains.specs.Held.{AreEndsOf, IsRoom, IsRow, IsSpan, has_bit, marked};
 
-use mn_boxes::bits::{count, is_set, next_set, previous_set};
 use super::shape::Ends;
+use mn_boxes::bits::{count, is_set, next_set, previous_set};
 
 /// The number of the bit of `a`.
 pub fn bit_number(lo: i64, at: usize, a: i64) -> usize

@@ -25,8 +25,16 @@ fn run_in(word: usize, from: usize, to: usize) -> u64
     requires high { word ≤ to / 64 }
     ensures { (i : ℕ) → i / 64 ≡ word → word_bit result (i % 64) ≡ (nat_le from i && nat_le i to) }
 {
-    let first = if word == from / WIDTH { from % WIDTH } else { 0 };
-    let last = if word == to / WIDTH { to % WIDTH } else { WIDTH - 1 };
+    let first = if word == from / WIDTH {
+        from % WIDTH
+    } else {
+        0
+    };
+    let last = if word == to / WIDTH {
+        to % WIDTH
+    } else {
+        WIDTH - 1
+    };
     run(first, last)
 }
 
@@ -59,7 +67,9 @@ impl Row {
         requires small { self.to + self.raise < 2 ^ 62 }
         ensures { (i : ℕ) → i / 64 ≡ word → word_bit result (i % 64) ≡ is_hit bits.now self set.now wanted i }
     {
-        bits[word] & run_in(word, self.from, self.to) & Row::passing(set, wanted, word * WIDTH + self.raise)
+        bits[word]
+            & run_in(word, self.from, self.to)
+            & Row::passing(set, wanted, word * WIDTH + self.raise)
     }
 
     /// The first bit that is hit.

@@ -3,10 +3,10 @@ ghost use Rattle.std.specs.Prelude.{◌≡◌, ◌+◌, ◌*◌, ◌^◌, ◌<�
 ghost use Rattle.std.specs.List.{AllByRecursion, AllZip};
 ghost use Rattle.mn_domains.specs.Held.{IsFull, IsShape, TellsMoved, cleared, sizes};
 
-use mn_boxes::bits::{WIDTH, is_set};
 use super::layout::Layout;
 use super::shape::{self, Ends, Shape};
 use mn_boxes::Moved;
+use mn_boxes::bits::{WIDTH, is_set};
 use mn_model::VARIABLES;
 use std::alloc::{AllocError, Global};
 

@@ -1,9 +1,8 @@
 -- A round of passes, and rounds until the sets are closed.
-use Rattle.std.proofs.Common.{◌≡◌, ℕ, zero, suc, ◌+◌, ◌-◌, ◌<◌, ◌≤◌, ◌⊎◌, ℤ, inl, inr, Bool, true, false, not, List, [], ◌∷◌, length, map, option_map, slice_get, slice_set, Some, Result, Ok, Err, refl, sym, subst, ap, ◌∙◌, arith}
+use Rattle.std.proofs.Common.{◌≡◌, ℕ, zero, suc, ◌+◌, ◌-◌, ◌<◌, ◌≤◌, ◌⊎◌, ℤ, inl, inr, Bool, true, false, not, List, [], ◌∷◌, length, map, option_map, slice_get, slice_set, Some, Result, Ok, Err, IsErr, OnErr, refl, sym, subst, ap, ◌∙◌, arith}
 use Rattle.std.proofs.lemmas.Option.{slice_get-map, slice_get_within}
 use Rattle.std.specs.List.{AllByRecursion}
 use Rattle.mn_model.specs.Decided.{Decided, decide_nat}
-use Rattle.mn_model.specs.declared.constraint.Term.{Term}
 use Rattle.mn_model.proofs.Lists.{all_at}
 use Rattle.mn_boxes.specs.Boxes.{IsBox, Inside, count_of}
 use Rattle.mn_boxes.specs.Sets.{Variable}
@@ -39,6 +38,16 @@ pub comes_within : (back : Bool) (len i at : ℕ) → i < len → ComesAt back l
 comes_within false len i at below comes = omega (arith, below, comes)
 comes_within true len i at below comes = omega (arith, below, comes)
 
+-- one or the other, and not the one
+pub otherwise : {A B : Type 0} → A ⊎ B → (A → ⊥) → B
+otherwise (inl a) not_a = absurd (not_a a)
+otherwise (inr b) not_a = b
+
+-- what is so of an error
+pub on_err : {A E X : Type 0} (r : Result A E) → IsErr r → X → OnErr r X
+on_err (Ok a) err x = tt
+on_err (Err e) err x = x
+
 -- ---- what the propagators were posted for
 
 pub posted_at : {P : Type 0} (f : P → Posted) (ys : List P) (m : ℕ) (y : P) → slice_get ys m ≡ Some y → slice_get (map f ys) m ≡ Some (f y)
@@ -65,10 +74,10 @@ pub record Onward (posts : List Posted) (old now : Context) : Type 0 where
 onward_itself : (posts : List Posted) (c : Context) → Onward posts c c
 onward_itself posts c = record { takes = record { frame = refl; boxes = λ is. is; inside = inside_itself (box_of c) }; sound = λ box is i closed. i; no_more = omega arith }
 
-at_rest : Context → Context
+abbrev pub at_rest : Context → Context
 at_rest c = record c { moved = false }
 
-module _ {R : Rules} {posts : List Posted} {old now new : Context} {m : ℕ} {p : Posted} (onward : Onward posts old now) (at : slice_get posts m ≡ Some p) where
+module _ {posts : List Posted} {old now : Context} {p : Posted} (onward : Onward posts old now) (m : ℕ) (at : slice_get posts m ≡ Some p) where
   -- a box that is closed under each is closed under the one that passes
   closed_here : (box : List (List ℤ)) → ClosedEach (vars_of old) posts box → ClosedUnder (vars_of now) p box
   closed_here box closed = subst (λ vars. ClosedUnder vars p box) (sym (taken_vars onward.takes)) (all_at (λ q. ClosedUnder (vars_of old) q box) posts m p closed at)
@@ -76,8 +85,8 @@ module _ {R : Rules} {posts : List Posted} {old now new : Context} {m : ℕ} {p 
   box_here : (box : List (List ℤ)) → IsBox (vars_of old) box → IsBox (vars_of now) box
   box_here box is = subst (λ vars. IsBox vars box) (sym (taken_vars onward.takes)) is
 
-  one_onward : {done : Unit {0}} → IsStep R (ClosedUnder (vars_of now) p) (at_rest now) new (Ok done) → Onward posts old new
-  one_onward step =
+  one_onward : {R : Rules} {new : Context} {done : Unit {0}} → IsStep R (ClosedUnder (vars_of now) p) (at_rest now) new (Ok done) → Onward posts old new
+  one_onward {new = new} step =
       let next : (box : List (List ℤ)) → IsBox (vars_of now) box → Inside box (box_of now) → ClosedUnder (vars_of now) p box → Inside box (box_of new) = step.sound in
       let few = no_more step.loses in
       let was = onward.no_more in
@@ -88,12 +97,12 @@ module _ {R : Rules} {posts : List Posted} {old now new : Context} {m : ℕ} {p 
       }
 
   -- or it fails
-  none_onward : {fail : Fail} → IsStep R (ClosedUnder (vars_of now) p) (at_rest now) new (Err fail) → NoneHas (vars_of old) (ClosedEach (vars_of old) posts) (box_of old)
+  pub none_onward : {R : Rules} {new : Context} {fail : Fail} → IsStep R (ClosedUnder (vars_of now) p) (at_rest now) new (Err fail) → NoneHas (vars_of old) (ClosedEach (vars_of old) posts) (box_of old)
   none_onward step box is i closed =
       let none : (b : List (List ℤ)) → IsBox (vars_of now) b → Inside b (box_of now) → ClosedUnder (vars_of now) p b → ⊥ = step.fail in
       none box (box_here box is) (onward.sound box is i closed) (closed_here box closed)
 
-  taken_onward : {result : Result (Unit {0}) Fail} → IsStep R (ClosedUnder (vars_of now) p) (at_rest now) new result → OnlyTakes old new
+  pub taken_onward : {R : Rules} {new : Context} {result : Result (Unit {0}) Fail} → IsStep R (ClosedUnder (vars_of now) p) (at_rest now) new result → OnlyTakes old new
   taken_onward step = taken_through onward.takes (taken_through (taken_at_rest now) (only_takes step.loses))
 
 -- ---- a round
@@ -109,8 +118,8 @@ pub record Passing (back : Bool) (posts : List Posted) (old now : Context) (i la
 pub none_passed : {back : Bool} {posts : List Posted} {c : Context} {from : ℕ} → from ≤ length posts → FirstClosed back (vars_of c) posts from (box_of c) → Passing back posts c c from from
 none_passed {back = back} {posts = posts} {c = c} {from = from} within first = record { onward = onward_itself posts c; within = within; few = omega arith; closed = λ k p at among front. first k p at among; fewer = inl refl }
 
-module _ {R : Rules} {back : Bool} {posts : List Posted} {old now new : Context} {i last m : ℕ} {p : Posted} {done : Unit {0}} (passing : Passing back posts old now i last) (below : i < length posts) (comes : ComesAt back (length posts) i m) (at : slice_get posts m ≡ Some p)
-  (step : IsStep R (ClosedUnder (vars_of now) p) (at_rest now) new (Ok done)) where
+module _ {R : Rules} {back : Bool} {posts : List Posted} {old now new : Context} {i last : ℕ} {p : Posted} {done : Unit {0}} (passing : Passing back posts old now i last) (m : ℕ) (below : i < length posts) (comes : ComesAt back (length posts) i m) (at : slice_get posts m ≡ Some p)
+    (step : IsStep R (ClosedUnder (vars_of now) p) (at_rest now) new (Ok done)) where
   the_one : (q : Posted) (k : ℕ) → slice_get posts k ≡ Some q → k ≡ m → p ≡ q
   the_one q k stands same = one (subst (λ n. slice_get posts n ≡ Some q) same stands) at
     where
@@ -123,7 +132,7 @@ module _ {R : Rules} {back : Bool} {posts : List Posted} {old now new : Context}
   -- nothing went
   one_at_rest : new.moved ≡ false → Passing back posts old new (i + 1) (last + 1)
   one_at_rest quiet = record {
-    onward = one_onward passing.onward at step;
+    onward = one_onward passing.onward m at step;
     within = omega (arith, below);
     few = let few = passing.few in omega (arith, few);
     closed = λ k q stands among front. subst (ClosedUnder (vars_of old) q) (sym same) (by k q stands among (λ before. front (subst (λ n. IsAmong back (length posts) n k) less before)) (decide_nat k m));
@@ -153,7 +162,7 @@ module _ {R : Rules} {back : Bool} {posts : List Posted} {old now new : Context}
   -- a value went, and the sets are closed under the one that passed
   one_settled : new.moved ≡ true → ClosedUnder (vars_of now) p (box_of new) → Passing back posts old new (i + 1) 1
   one_settled moved settled = record {
-    onward = one_onward passing.onward at step;
+    onward = one_onward passing.onward m at step;
     within = omega (arith, below);
     few = omega arith;
     closed = λ k q stands among front.
@@ -167,7 +176,7 @@ module _ {R : Rules} {back : Bool} {posts : List Posted} {old now new : Context}
   -- or maybe not
   none_settled : new.moved ≡ true → Passing back posts old new (i + 1) 0
   none_settled moved = record {
-    onward = one_onward passing.onward at step;
+    onward = one_onward passing.onward m at step;
     within = omega (arith, below);
     few = omega arith;
     closed = λ k q stands among front. absurd (front (subst (λ n. IsAmong back (length posts) n k) less among));
@@ -193,8 +202,8 @@ first_closed {back = back} {posts = posts} {old = old} {now = now} {i = i} {last
     (λ front. turned_round back (length posts) last k within (omega (arith, few, all)) among (subst (λ n. IsAmong back (length posts) (n - last) k) (sym end) front))
 
 -- the one at a place is ready
-pub is_ready : {posts : List Posted} {vars now_vars : List Variable} {m : ℕ} {p : Posted} → now_vars ≡ vars → AreReady vars posts → slice_get posts m ≡ Some p → IsReadyToRun now_vars p
-is_ready {posts = posts} {vars = vars} {now_vars = now_vars} {m = m} {p = p} same ready at = subst (λ v. IsReadyToRun v p) (sym same) (all_at (IsReadyToRun vars) posts m p ready at)
+pub is_ready : {vars now_vars : List Variable} {p : Posted} (posts : List Posted) (m : ℕ) → now_vars ≡ vars → AreReady vars posts → slice_get posts m ≡ Some p → IsReadyToRun now_vars p
+is_ready {vars = vars} {now_vars = now_vars} {p = p} posts m same ready at = subst (λ v. IsReadyToRun v p) (sym same) (all_at (IsReadyToRun vars) posts m p ready at)
 
 -- ---- rounds
 
@@ -213,7 +222,7 @@ no_round back posts c = record { posted = refl; onward = onward_itself posts c; 
     none false k within among = omega (arith, among)
     none true k within among = omega (arith, within, among)
 
-module _ {back : Bool} {posts now_posts : List Posted} {old now new : Context} {closed : ℕ} (rounds : Rounds back posts now_posts old now closed) where
+module _ {back : Bool} {posts now_posts : List Posted} {old now : Context} {closed : ℕ} (rounds : Rounds back posts now_posts old now closed) where
   same_vars : vars_of now ≡ vars_of old
   same_vars = taken_vars rounds.onward.takes
 
@@ -224,30 +233,30 @@ module _ {back : Bool} {posts now_posts : List Posted} {old now new : Context} {
   closed_again = subst (λ vars. FirstClosed back vars now_posts closed (box_of now)) (sym same_vars) (subst (λ ps. FirstClosed back (vars_of old) ps closed (box_of now)) (sym rounds.posted) rounds.first)
 
   -- what another round says, of the variables and the propagators of before
-  sound_again : Keeps (vars_of now) (ClosedEach (vars_of now) now_posts) (box_of now) (box_of new) → Keeps (vars_of old) (ClosedEach (vars_of old) posts) (box_of old) (box_of new)
-  sound_again sound box is i closed =
+  sound_again : (new : Context) → Keeps (vars_of now) (ClosedEach (vars_of now) now_posts) (box_of now) (box_of new) → Keeps (vars_of old) (ClosedEach (vars_of old) posts) (box_of old) (box_of new)
+  sound_again new sound box is i closed =
       sound box (subst (λ vars. IsBox vars box) (sym same_vars) is) (rounds.onward.sound box is i closed) (subst (λ vars. ClosedEach vars now_posts box) (sym same_vars) (subst (λ ps. ClosedEach (vars_of old) ps box) (sym rounds.posted) closed))
 
-  first_again : {last : ℕ} → FirstClosed (not back) (vars_of now) now_posts last (box_of new) → FirstClosed (not back) (vars_of old) posts last (box_of new)
-  first_again {last = last} first = subst (λ ps. FirstClosed (not back) (vars_of old) ps last (box_of new)) rounds.posted (subst (λ vars. FirstClosed (not back) vars now_posts last (box_of new)) same_vars first)
+  first_again : (new : Context) (last : ℕ) → FirstClosed (not back) (vars_of now) now_posts last (box_of new) → FirstClosed (not back) (vars_of old) posts last (box_of new)
+  first_again new last first = subst (λ ps. FirstClosed (not back) (vars_of old) ps last (box_of new)) rounds.posted (subst (λ vars. FirstClosed (not back) vars now_posts last (box_of new)) same_vars first)
 
-  pub one_round : {new_posts : List Posted} {last : ℕ} → new_posts ≡ now_posts → OnlyTakes now new → Keeps (vars_of now) (ClosedEach (vars_of now) now_posts) (box_of now) (box_of new) → last ≤ length now_posts → FirstClosed (not back) (vars_of now) now_posts last (box_of new)
+  pub one_round : {new : Context} {new_posts : List Posted} (last : ℕ) → new_posts ≡ now_posts → OnlyTakes now new → Keeps (vars_of now) (ClosedEach (vars_of now) now_posts) (box_of now) (box_of new) → last ≤ length now_posts → FirstClosed (not back) (vars_of now) now_posts last (box_of new)
       → count_of (box_of new) < count_of (box_of now) → Rounds (not back) posts new_posts old new last
-  one_round {new_posts = new_posts} {last = last} posted takes sound within first fewer = record {
+  one_round {new = new} {new_posts = new_posts} last posted takes sound within first fewer = record {
     posted = posted ∙ rounds.posted;
-    onward = record { takes = taken_through rounds.onward.takes takes; sound = sound_again sound; no_more = let few = rounds.onward.no_more in omega (arith, few, fewer) };
+    onward = record { takes = taken_through rounds.onward.takes takes; sound = sound_again new sound; no_more = let few = rounds.onward.no_more in omega (arith, few, fewer) };
     within = subst (λ ps. last ≤ length ps) rounds.posted within;
-    first = first_again first;
+    first = first_again new last first;
   }
 
-  pub last_round : {last : ℕ} → IsBox (vars_of old) (box_of old) → OnlyTakes now new → Keeps (vars_of now) (ClosedEach (vars_of now) now_posts) (box_of now) (box_of new) → last ≡ length now_posts → FirstClosed (not back) (vars_of now) now_posts last (box_of new)
+  pub last_round : {new : Context} (last : ℕ) → IsBox (vars_of old) (box_of old) → OnlyTakes now new → Keeps (vars_of now) (ClosedEach (vars_of now) now_posts) (box_of now) (box_of new) → last ≡ length now_posts → FirstClosed (not back) (vars_of now) now_posts last (box_of new)
       → IsSettled (vars_of old) posts (box_of old) (box_of new)
-  last_round {last = last} is takes sound whole first =
+  last_round {new = new} last is takes sound whole first =
       let all = taken_through rounds.onward.takes takes in
       record {
         lawful = subst (λ vars. IsBox vars (box_of new)) (taken_vars all) (all.boxes is);
-        closed = all_from (λ p. ClosedUnder (vars_of old) p (box_of new)) posts (λ k p at. first_again first k p at (subst (λ n. IsAmong (not back) (length posts) n k) (sym (whole ∙ ap length rounds.posted)) (all_among (not back) (length posts) k (slice_get_within posts k p at))));
-        kept = sound_again sound;
+        closed = all_from (λ p. ClosedUnder (vars_of old) p (box_of new)) posts (λ k p at. first_again new last first k p at (subst (λ n. IsAmong (not back) (length posts) n k) (sym (whole ∙ ap length rounds.posted)) (all_among (not back) (length posts) k (slice_get_within posts k p at))));
+        kept = sound_again new sound;
       }
 
   pub no_more_rounds : NoneHas (vars_of now) (ClosedEach (vars_of now) now_posts) (box_of now) → NoneHas (vars_of old) (ClosedEach (vars_of old) posts) (box_of old)

@@ -30,7 +30,12 @@ fn closed_after(moved: bool, settles: bool, last: usize) -> usize
 /// One pass of each propagator behind the first `from`, in order or in the other direction. The sets are closed under those.
 /// Says under how many of the last they are closed afterwards: under those that passed since a value went, and if nothing
 /// went under all.
-fn pass_all<P: Runner>(runners: &mut Vec<P>, c: &mut Ctx, back: bool, from: usize) -> Result<usize, Fail>
+fn pass_all<P: Runner>(
+    runners: &mut Vec<P>,
+    c: &mut Ctx,
+    back: bool,
+    from: usize,
+) -> Result<usize, Fail>
     requires ready { AreReady (vars_of c.old) (map P.posted runners.old.items) }
     requires within { from ≤ length runners.old.items }
     requires closed { FirstClosed back (vars_of c.old) (map P.posted runners.old.items) from (box_of c.old) }
