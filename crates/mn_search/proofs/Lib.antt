@@ -5,6 +5,7 @@ pub mod Leaving
 pub mod Parting
 pub mod Pathing
 pub mod Placing
+pub mod Rearranged
 pub mod Running
 pub mod Seeing
 pub mod Settling
