@@ -2,8 +2,8 @@
 //! number of the status that `run` answers.
 #![tactic(auto)]
 
-use mn_driver::{Status, run};
-use mn_outside::{DiskFiles, StdSink};
+use mn_driver::{MEMORY_LINE, Status, run};
+use mn_outside::{DiskFiles, StdSink, put_all};
 use std::env;
 use std::io::{self, ErrorKind};
 use std::process::ExitCode;
@@ -13,8 +13,12 @@ fn main(rt: HostRuntime) -> ExitCode {
     let mut files = DiskFiles::new(rt);
     let mut out = StdSink::new(rt);
     let status = match read_words(rt, &mut words) {
+        Err(fault) if fault.kind() == ErrorKind::OutOfMemory => {
+            // Where that fails there is nothing left to say.
+            let _ = put_all(&mut out, MEMORY_LINE);
+            Status::NoMemory
+        }
         // Words that are no text name no model, and `run` says so of none at all.
-        Err(fault) if fault.kind() == ErrorKind::OutOfMemory => Status::NoMemory,
         _ => run(rt.alloc(), &words, &mut files, &mut out).status,
     };
     ExitCode::from(status.code())

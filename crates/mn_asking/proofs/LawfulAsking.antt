@@ -1,9 +1,9 @@
 -- What the section on search says is lawful in the model.
-use Rattle.std.proofs.Common.{◌≡◌, ℕ, zero, suc, ◌+◌, ◌≤◌, leb, ltb, Bool, true, false, not, ◌&&◌, ◌||◌, List, [], ◌∷◌, ◌++◌, length, take, drop, Option, Some, None, Ok, Err, refl, ◌∙◌, subst, arith, length-append}
+use Rattle.std.proofs.Common.{◌≡◌, ℕ, zero, suc, ◌+◌, ◌≤◌, leb, ltb, Bool, true, false, not, ◌&&◌, ◌||◌, List, [], ◌∷◌, ◌++◌, length, replicate, take, drop, Option, Some, None, Ok, Err, refl, ◌∙◌, subst, arith, length-append}
 use Rattle.std.specs.List.{AllByRecursion, range_with_len}
 use Rattle.std.proofs.lemmas.Bool.{or_parts, not-false}
 use Rattle.std.proofs.lemmas.List.FromFn.{length-range_with_len}
-use Rattle.std.proofs.lemmas.List.{length-map}
+use Rattle.std.proofs.lemmas.List.{length-map, length-replicate}
 use Rattle.mn_lexer.specs.Terminals.{Terminal, mark}
 use Rattle.mn_lexer.specs.declared.marks.Mark.TheVariants.{CloseSquare, Comma, OpenSquare}
 use Rattle.mn_model.specs.Lawful.{IsLawful, IsKnown, IsLawfulOrder, IsLawfulPrint, IsLawfulRow}
@@ -12,6 +12,7 @@ use Rattle.mn_model.specs.declared.constraint.Term.{Term}
 use Rattle.mn_model.specs.declared.limits.TheConstants.{PLACES}
 use Rattle.mn_model.specs.declared.search.Print.{Print}
 use Rattle.mn_model.specs.declared.variable.VarId.{VarId}
+use Rattle.mn_model.proofs.Kept.{IsLawful-search}
 use Rattle.mn_model.proofs.Sizes.{size_of_dims-positive}
 use Rattle.mn_model.proofs.Lists.{all_drop, all_take, all_append, all_back, all_front, all_so}
 use Rattle.mn_grammar.specs.Places.{when, on, behind}
@@ -21,6 +22,7 @@ use Rattle.mn_grammar.specs.Lists.{Items, final, also, spell_items, breaks_items
 use Rattle.mn_grammar.specs.declared.Kind.TheVariants.{Shape}
 use Rattle.mn_grammar.specs.declared.site.Site.TheVariants.{Fixed, MarksOnly}
 use Rattle.mn_grammar.proofs.Steps.{on_kept}
+use Rattle.mn_cursor.specs.declared.heads.Head.{Head}
 use Rattle.mn_references.specs.Conditions.{lesser, as_kind}
 use Rattle.mn_references.specs.References.{Ref, Sub, Aim, Lead, Found, Within, spell_ref, breaks_ref, value_ref, value_subs, lead, at_start, entered, sub_judge, found_at, are_bits, one_place}
 use Rattle.mn_references.specs.Entries.{Row, plain, bracketed, any_number, in_list, parted, rows_of, runs, run, spell_row, breaks_row, value_row, value_entry, breaks_list, Rows}
@@ -31,7 +33,7 @@ use Rattle.mn_references.proofs.LawfulReferences.{IsGood, ref_good}
 use Rattle.mn_references.proofs.LawfulVectors.{IsFairToken, AreFair, IsTerm, known_in, entry_comes, front_more, no_front, list_vector}
 use Rattle.mn_references.proofs.Referable.{ref_spec, ref_law}
 use Rattle.mn_references.proofs.Rowing.{IsShaped, shaped_lead}
-use Rattle.mn_asking.specs.Search.{order_aim, order_judge, at_full, all_vars, values_judge, at_way, all_ways, no_ways, rows_judge, all_rows, Printing, print_all, print_none, print_rows, spell_printing, breaks_printing, value_printing, first_of}
+use Rattle.mn_asking.specs.Search.{order_aim, order_judge, at_full, all_vars, values_judge, at_way, all_ways, no_ways, rows_judge, all_rows, Printing, print_all, print_none, print_rows, spell_printing, breaks_printing, value_printing, first_of, Asking, Item, var_order, val_order, objective, print, says_order, says_values, prints, at_word, goal_word, spell_static, spell_item, breaks_behind, breaks_item, value_item, spell_section, breaks_section, value_section}
 use Rattle.mn_asking.specs.Searching.{static_token, both, no_break, order_at, behind_static, var_order_at, ways_at, val_order_at, print_at}
 use Rattle.mn_asking.proofs.Askable.{order_spec, order_law, ways_spec, ways_law, print_spec, print_law}
 
@@ -228,3 +230,37 @@ module _ (p : Problem) where
       let read = subst (Said (print_spec p) (print_at p) ts) is ((print_law p).said ts) in
       let tree_fair = all_front IsFairToken (spell_printing read.tree) us (subst AreFair read.parts fair) in
       subst (IsLawfulPrint (domains_of p.decls)) read.means (printed_lawful lawful read.tree read.kept tree_fair)
+
+-- 5. So is a problem with one more item
+item_added : (s : Asking) → IsLawful s.problem → (i : Item) → breaks_item s i ≡ [] → AreFair (spell_item i) → IsLawful (value_item s i).problem
+item_added s lawful (var_order static refs) kept fair =
+    let p : Problem = s.problem in
+    let vars : List VarId = value_maybe (order_judge p) [] all_vars refs [] in
+    let parts = token_kept (at_word s says_order) 1 (breaks_behind p (var_order static refs)) kept in
+    let are = maybe_ordered p lawful refs (behind_kept (length (spell_static static)) (breaks_maybe (order_judge p) None refs []) parts.1) in
+    IsLawful-search p (record { vars = vars; down = replicate (length vars) false }) p.goal p.print lawful
+    (record { known = are.known; few = are.few; directed = length-replicate (length vars) false }) lawful.goal lawful.print
+item_added s lawful (val_order ways) kept fair =
+    let p : Problem = s.problem in
+    let wanted : ℕ = length p.order.vars in
+    let parts = token_kept (at_word s says_values) 1 (breaks_behind p (val_order ways)) kept in
+    let directed = maybe_directed p wanted ways (behind_kept 1 (breaks_maybe (values_judge wanted) (no_ways wanted) ways []) parts.1) in
+    IsLawful-search p (record (p.order) { down = value_maybe (values_judge wanted) [] all_ways ways [] }) p.goal p.print lawful
+    (record { known = lawful.order.known; few = lawful.order.few; directed = directed }) lawful.goal lawful.print
+item_added s lawful (objective maximise r) kept fair =
+    let p : Problem = s.problem in
+    let parts = token_kept (at_word s (goal_word maximise)) 1 (breaks_ref p (one_place p false) r) kept in
+    IsLawful-search p p.order (Some (record { var = first_of (value_ref p (one_place p false) r).vars; maximise = maximise })) p.print lawful
+    lawful.order (goal_kept p lawful r parts.1).known lawful.print
+item_added s lawful (print x) kept fair =
+    let p : Problem = s.problem in
+    let parts = token_kept (at_word s prints) 1 (breaks_printing p x) kept in
+    IsLawful-search p p.order p.goal (value_printing p x) lawful lawful.order lawful.goal (printed_lawful p lawful x parts.1 fair.1)
+
+-- and with all of them
+pub items_lawful : (s : Asking) → IsLawful s.problem → (items : List Item) (h : Head) → breaks_section s items ≡ [] → AreFair (spell_section items h) → IsLawful (value_section s items).problem
+items_lawful s lawful [] h kept fair = lawful
+items_lawful s lawful (i ∷ items) h kept fair =
+    let parts = part_kept (length (spell_item i)) (breaks_item s i) (breaks_section (value_item s i) items) kept in
+    items_lawful (value_item s i) (item_added s lawful i parts.0 (all_front IsFairToken (spell_item i) (spell_section items h) fair)) items h parts.1
+    (all_back IsFairToken (spell_item i) (spell_section items h) fair)

@@ -104,15 +104,20 @@ module _ (p : Problem) where
     alias_from name dims all named shaped fills =
         record { named = named; shaped = shaped; filled = let size = fills.size in omega arith; known = all_so _ _ known_in all (fills.known tt) }
 
-    -- so the alias that is read is lawful
+    -- so the alias of a tree is lawful, and that which is read
+    pub matrix_kept : (name dims : List ℕ) (n : Nest) → IsName name → AllByRecursion (λ dim. 1 ≤ dim) dims → 1 ≤ length dims → breaks_nest p n dims ≡ [] → IsLawfulAlias (domains_of p.decls) (record { name = name; dims = dims; vars = with_nest p n [] })
+    matrix_kept name dims n named shaped some kept = alias_from name dims (with_nest p n []) named shaped (nest_fills n dims [] shaped kept (nest_closed n dims some kept))
+
+    pub one_kept : (name : List ℕ) (r : Ref) → IsName name → breaks_ref p (one_place p false) r ≡ [] → (value_ref p (one_place p false) r).behind ≡ None → IsLawfulAlias (domains_of p.decls) (record { name = name; dims = []; vars = (value_ref p (one_place p false) r).vars })
+    one_kept name r named kept ends = alias_from name [] (value_ref p (one_place p false) r).vars named tt (ref_fills r [] kept ends)
+
     pub matrix_lawful : (name dims : List ℕ) (ts us : List Terminal) (v : Led) → IsName name → AllByRecursion (λ dim. 1 ≤ dim) dims → 1 ≤ length dims → nest_at p dims [] ts ≡ Ok (v, us) → IsLawfulAlias (domains_of p.decls) (record { name = name; dims = dims; vars = v.vars })
     matrix_lawful name dims ts us v named shaped some reads =
         let is : IsRead (nest_spec p dims []) ts v us = subst (λ r. Said (nest_spec p dims []) (nest_at p dims []) ts r) reads ((nest_law p dims []).said ts) in
-        alias_from name dims v.vars named shaped
-        (subst (λ (l : Led). Fills [] (size_of_dims dims) l.vars) is.means (nest_fills is.tree dims [] shaped is.kept (nest_closed is.tree dims some is.kept)))
+        subst (λ (l : Led). IsLawfulAlias (domains_of p.decls) (record { name = name; dims = dims; vars = l.vars })) is.means (matrix_kept name dims is.tree named shaped some is.kept)
 
     pub one_lawful : (name : List ℕ) (ts us : List Terminal) (f : Found) → IsName name → f.behind ≡ None → ref_at p (one_place p false) ts ≡ Ok (f, us) → IsLawfulAlias (domains_of p.decls) (record { name = name; dims = []; vars = f.vars })
     one_lawful name ts us f named ends reads =
         let is : IsRead (ref_spec p (one_place p false)) ts f us = subst (λ r. Said (ref_spec p (one_place p false)) (ref_at p (one_place p false)) ts r) reads ((ref_law p (one_place p false)).said ts) in
-        let fills = ref_fills is.tree [] is.kept (ap (λ (g : Found). g.behind) is.means ∙ ends) in
-        alias_from name [] f.vars named tt (subst (λ (g : Found). Fills [] 1 g.vars) is.means fills)
+        subst (λ (g : Found). IsLawfulAlias (domains_of p.decls) (record { name = name; dims = []; vars = g.vars })) is.means
+        (one_kept name is.tree named is.kept (ap (λ (g : Found). g.behind) is.means ∙ ends))

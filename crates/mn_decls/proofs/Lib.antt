@@ -6,3 +6,5 @@ pub mod AliasSteps
 pub mod LawfulAliases
 pub mod VariableSteps
 pub mod Ranges
+pub mod LawfulTuples
+pub mod LawfulVariables

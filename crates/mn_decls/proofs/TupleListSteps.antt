@@ -34,11 +34,11 @@ kept : (c : Option Kind) (ts us vs : List Terminal) → judged c (tt {0}) ts us 
 kept None ts us vs e = (refl, let same : ◌≡◌ {A = Unit {0} × List Terminal} (tt, us) (tt, vs) = cc in ap (λ (r : Unit {0} × List Terminal). r.1) same)
 kept (Some k) ts us vs e = cc
 
-below_wanted : (b : Bool) → when (not b) kinds.Shape ≡ None → b ≡ true
+pub below_wanted : (b : Bool) → when (not b) kinds.Shape ≡ None → b ≡ true
 below_wanted true e = refl
 below_wanted false e = cc
 
-one_more : (before : List ℤ) (wanted z : ℤ) → int_lt (pos (length before)) wanted ≡ true → pos (length (before ++ z ∷ [])) ≤ℤ wanted
+pub one_more : (before : List ℤ) (wanted z : ℤ) → int_lt (pos (length before)) wanted ≡ true → pos (length (before ++ z ∷ [])) ≤ℤ wanted
 one_more before wanted z less = let size : length (before ++ z ∷ []) ≡ length before + 1 = length-append before (z ∷ []) in omega (arith, ints)
 
 module _ (wanted : ℤ) (before : List ℤ) (ts : List Terminal) (z : ℤ) (is : first_as number_of ts ≡ Some z) where
@@ -154,15 +154,15 @@ module _ (p : Problem) (ts : List Terminal) where
   )
 
 -- 5. What may be added is lawful
-module _ (p : Problem) (count size : ℤ) where
-  if_none : (b : Bool) (j : Kind) (c : Option Kind) → (if b then Some j else c) ≡ None → (b ≡ false) × (c ≡ None)
-  if_none true j c e = cc
-  if_none false j c e = (refl, e)
+pub if_none : (b : Bool) (j : Kind) (c : Option Kind) → (if b then Some j else c) ≡ None → (b ≡ false) × (c ≡ None)
+if_none true j c e = cc
+if_none false j c e = (refl, e)
 
-  count_least : fair_count p count ≡ None → int_lt count (pos 0) ≡ false
+module _ (p : Problem) (count size : ℤ) where
+  pub count_least : fair_count p count ≡ None → int_lt count (pos 0) ≡ false
   count_least fair = (if_none (int_lt count (pos 0)) kinds.Shape _ fair).0
 
-  size_least : fair_size p count size ≡ None → int_lt size (pos 1) ≡ false
+  pub size_least : fair_size p count size ≡ None → int_lt size (pos 1) ≡ false
   size_least fair = (if_none (int_lt size (pos 1)) kinds.Shape _ fair).0
 
   pub room_for : fair_size p count size ≡ None → (numbers : List ℤ) → pos (length numbers) ≤ℤ (count *ℤ size) → cells_of p + length numbers ≤ CELLS
@@ -173,11 +173,11 @@ module _ (p : Problem) (count size : ℤ) where
       at : (all : ℤ) → pos (length numbers) ≤ℤ all → is_past_cells p all ≡ false → cells_of p + length numbers ≤ CELLS
       at all few within = omega (arith, ints)
 
-at_least : (z : ℤ) → int_lt z (pos 1) ≡ false → (n : ℕ) × (z ≡ pos n) × (nat_abs z ≡ n) × (1 ≤ n)
+pub at_least : (z : ℤ) → int_lt z (pos 1) ≡ false → (n : ℕ) × (z ≡ pos n) × (nat_abs z ≡ n) × (1 ≤ n)
 at_least (pos n) e = (n, refl, refl, omega (arith, ints))
 at_least (negsuc n) e = absurd (omega (arith, ints))
 
-no_less : (z : ℤ) → int_lt z (pos 0) ≡ false → (n : ℕ) × (z ≡ pos n)
+pub no_less : (z : ℤ) → int_lt z (pos 0) ≡ false → (n : ℕ) × (z ≡ pos n)
 no_less (pos n) e = (n, refl)
 no_less (negsuc n) e = absurd (omega (arith, ints))
 

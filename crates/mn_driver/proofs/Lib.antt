@@ -9,5 +9,6 @@ pub mod Going
 pub mod Reading
 pub mod Turned
 pub mod Spelled
-pub mod Misusing
+pub mod Ending
 pub mod Dumping
+pub mod Stopping

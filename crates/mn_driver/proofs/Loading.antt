@@ -1,5 +1,6 @@
 -- What is known of the named file when its text was read, or wasn't.
 use Rattle.std.proofs.Common.{◌≡◌, ℕ, ◌+◌, ◌<◌, List, length, take, Option, Some, None, IsSomeAnd, IfSome, refl, sym, ap, subst, ◌∙◌, ◌⊎◌, inl, inr}
+use Rattle.mn_model.specs.Lawful.{IsLawful}
 use Rattle.mn_model.specs.Problem.{Problem}
 use Rattle.mn_model.specs.declared.limits.TheConstants.{TEXT_BYTES}
 use Rattle.mn_model.specs.declared.refusal.Refusal.{Refusal}
@@ -42,8 +43,9 @@ map_some None P Q f p = tt
 map_some (Some x) P Q f p = f p
 
 -- the text was read
-pub loaded : OneInstance → (told : Option FileMap) (name bytes : List ℕ) (p : Problem) → IsFileAt told name bytes → Reads bytes p → IsTheModel told name p
-loaded one told name bytes p is reads = record {
+pub loaded : OneInstance → (told : Option FileMap) (name bytes : List ℕ) (p : Problem) → IsLawful p → IsFileAt told name bytes → Reads bytes p → IsTheModel told name p
+loaded one told name bytes p lawful is reads = record {
+  lawful = lawful;
   held = map_some told (Tells told name bytes) (HoldsModel told name p) (λ there. record { text = bytes; there = there; reads = reads }) (tells told name bytes is);
   only = λ r held. one bytes r p (subst (λ text. Reads text r) (sym (same_text told name bytes held.text is held.there)) held.reads) reads;
 }

@@ -1,10 +1,13 @@
 pub mod Codes
 pub mod Counting
+pub mod Ends
 pub mod Explains
 pub mod Loads
+pub mod Outputs
 pub mod Owes
 pub mod Owing
 pub mod Report
+pub mod Reports
 pub mod Runs
 pub mod Stops
 pub mod Turns

@@ -1,13 +1,12 @@
 -- What a run owes, by what the words ask for and what the named file holds.
-use Rattle.std.specs.Prelude.{◌≡◌, ℕ, ◌+◌, ◌⊎◌, List, ◌++◌, take, Option, IfSome, Some, None}
+use Rattle.std.specs.Prelude.{◌≡◌, ℕ, ◌+◌, List, take, Option, IfSome, Some, None}
+use Rattle.mn_model.specs.Lawful.{IsLawful}
 use Rattle.mn_model.specs.Problem.{Problem}
 use Rattle.mn_model.specs.declared.refusal.Refusal.{Refusal}
-use Rattle.mn_outside.specs.Content.{FileMap, file_at, with_bytes}
-use Rattle.mn_outside.specs.Faults.{HasRisen}
+use Rattle.mn_outside.specs.Content.{FileMap, file_at}
 use Rattle.mn_outside.specs.Reading.{line_ends}
 use Rattle.mn_language.specs.Texts.{IsRefused, Reads}
 use Rattle.mn_report.specs.Lines.{place_of}
-use Rattle.mn_driver.specs.Written.{IsFrontOf}
 
 -- the files tell that the named one is there and has these bytes
 abbrev pub Tells : Option FileMap → List ℕ → List ℕ → Type 0
@@ -19,8 +18,9 @@ pub record HoldsModel (told : Option FileMap) (name : List ℕ) (p : Problem) : 
   pub there : Tells told name text
   pub reads : Reads text p
 
--- where the files tell their content, p is the one instance of which the named file holds a text
+-- p is a lawful instance, and where the files tell their content the one of which the named file holds a text
 pub record IsTheModel (told : Option FileMap) (name : List ℕ) (p : Problem) : Type 0 where
+  pub lawful : IsLawful p
   pub held : IfSome told (λ _. HoldsModel told name p)
   pub only : (r : Problem) → HoldsModel told name r → r ≡ p
 
@@ -38,12 +38,6 @@ pub record HoldsRefused (told : Option FileMap) (name : List ℕ) (why : Refusal
 -- where the files tell their content, the named file holds a text that is refused so
 abbrev pub IsTheRefused : Option FileMap → List ℕ → Refusal → ℕ → Type 0
 IsTheRefused told name why line = IfSome told (λ _. HoldsRefused told name why line)
-
--- These bytes were added, and a line behind them; less than the whole line stands only where the sink's count rose.
-abbrev pub AddsLine : Option (List ℕ) → Option (List ℕ) → ℕ → ℕ → List ℕ → List ℕ → Type 0
-AddsLine old new before after bytes line =
-    (new ≡ with_bytes old (bytes ++ line))
-    ⊎ (HasRisen before after × ((part : List ℕ) × IsFrontOf part line × (new ≡ with_bytes old (bytes ++ part))))
 
 -- the files tell that the named one isn't there
 abbrev pub IsAbsent : Option FileMap → List ℕ → Type 0

@@ -1,5 +1,5 @@
 -- What the words of the command line ask for.
-use Rattle.std.specs.Prelude.{ℕ, Bool, not, List, map, Option, Some, None, string_bytes}
+use Rattle.std.specs.Prelude.{ℕ, Bool, not, List, map, Option, Some, None, IfSome, IsSomeAnd, String, string_bytes}
 use Rattle.mn_options.specs.Meant.{model_name}
 use Rattle.mn_options.specs.Rules.{asks_for, first_broken}
 use Rattle.mn_options.specs.Words.{word_of}
@@ -24,3 +24,17 @@ asked words = asked_unless (first_broken words) (model_name words) (not (asks_fo
 -- the same as it is handed on
 abbrev pub asked_of : Request → Asked
 asked_of request = record { model = string_bytes request.model; print_sols = request.print_sols; redump = request.redump }
+
+-- the words ask for something, and this holds of it; and wherever they ask for something, it holds
+abbrev pub Ask : {A : Type 0} → List (String A) → (Asked → Type 0) → Type 0
+Ask words P = IsSomeAnd (asked (map string_bytes words)) P
+
+abbrev pub WhereAsked : {A : Type 0} → List (String A) → (Asked → Type 0) → Type 0
+WhereAsked words P = IfSome (asked (map string_bytes words)) P
+
+-- what they ask for, and the rule that they break first
+abbrev pub asked_by : {A : Type 0} → List (String A) → Option Asked
+asked_by words = asked (map string_bytes words)
+
+abbrev pub broken_by : {A : Type 0} → List (String A) → Option Usage
+broken_by words = first_broken (map string_bytes words)

@@ -18,8 +18,9 @@ mod solve;
 mod status;
 
 pub use mn_options::Usage;
+pub use mn_report::MEMORY_LINE;
 pub use program::run;
-pub use status::{Ended, Status};
+pub use status::{Counts, Ended, Status};
 
 #[cfg(test)]
 mod fixture;

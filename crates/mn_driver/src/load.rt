@@ -1,19 +1,19 @@
+//! The model of the named file.
 ghost use Rattle.std.specs.Prelude.{◌≡◌, ◌≤◌, IfErr, IfOk, length};
 ghost use Rattle.mn_model.specs.declared.limits.TheConstants.{TEXT_BYTES};
-ghost use Rattle.mn_outside.specs.Faults.{HasRisen, NoneFell};
-ghost use Rattle.mn_outside.specs.Reading.{line_ends};
+ghost use Rattle.mn_outside.specs.Faults.{HasRisen};
 ghost use Rattle.mn_driver.specs.Loads.{HasFewLines, IsOfText, Unloads, unfetched, unread};
 ghost use Rattle.mn_driver.specs.Runs.{IsTheModel, line_at};
 
 use mn_language::one_instance;
 use mn_model::{Instance, Refusal, TEXT_BYTES, Which};
-use mn_outside::{FetchFault, Files, fetch_all};
+use mn_outside::{FetchFault, Files, fetch_all, line_count};
 use mn_reader::read;
 use mn_report::place_of;
 use std::alloc::Global;
 
 /// Why no instance came of the named file.
-#[derive(Clone, Copy, Debug, PartialEq, Eq)]
+#[derive(Clone, Copy)]
 pub enum Unloaded {
     Failed,
     /// The text is refused. The number is that of the line, counted from 1.
@@ -37,7 +37,10 @@ pub fn load<F: Files>(alloc: Global, files: &mut F, name: &str) -> Result<Instan
     };
     let bytes = text.as_slice();
     match read(alloc, bytes) {
-        Ok(inst) => Ok(inst),
+        Ok(inst) => {
+            inst.lawful();
+            Ok(inst)
+        }
         Err(why) => Err(unread(why, bytes)),
     }
 }
@@ -72,11 +75,4 @@ fn line_at(text: &[u8], at: u64) -> u64
 {
     let before = at.min(text.len() as u64) as usize;
     line_count(&text[..before]) + 1
-}
-
-fn line_count(bytes: &[u8]) -> u64
-    ensures count { result ≡ line_ends bytes.now }
-    ensures within { result ≤ length bytes.now }
-{
-    bytes.iter().filter(|byte| **byte == b'\n').count() as u64
 }

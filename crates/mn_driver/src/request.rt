@@ -1,3 +1,4 @@
+//! What the words of the command line ask for.
 ghost use Rattle.std.specs.Prelude.{◌≡◌, ◌⊎◌, encode_utf8_all, map, IfErr, IfOk, Some, string_bytes};
 ghost use Rattle.mn_options.specs.Rules.{first_broken};
 ghost use Rattle.mn_driver.specs.Words.{asked, asked_of};
@@ -6,7 +7,7 @@ use mn_options::{Usage, parse};
 use std::alloc::{AllocError, Global};
 
 /// What lawful words ask for.
-#[derive(Debug, Drop)]
+#[derive(Drop)]
 pub struct Request {
     /// The name of the model.
     pub model: String,

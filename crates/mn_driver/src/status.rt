@@ -1,20 +1,11 @@
+//! How a run ended, and what it did.
 ghost use Rattle.std.specs.Prelude.{◌≡◌};
 ghost use Rattle.mn_driver.specs.Codes.{code_of};
 
 use mn_model::Refusal;
 use mn_options::Usage;
 
-/// How a run ended, and what it did. Counts stand still at their greatest value.
-#[derive(Clone, Copy, Debug, PartialEq, Eq)]
-pub struct Ended {
-    pub status: Status,
-    /// The visits of the search.
-    pub nodes: u64,
-    /// The solutions whose block was written whole, or where solutions aren't printed those that were found.
-    pub solutions: u64,
-}
-
-/// What a run did, whatever its end.
+/// What a run did, whatever its end. Counts stand still at their greatest value.
 #[derive(Clone, Copy, Debug, PartialEq, Eq)]
 pub struct Counts {
     /// The solutions whose block was written whole, or where solutions aren't printed those that were found.
@@ -29,6 +20,13 @@ impl Counts {
         solutions: 0,
         nodes: 0,
     };
+}
+
+/// How a run ended, and what it did.
+#[derive(Clone, Copy, Debug, PartialEq, Eq)]
+pub struct Ended {
+    pub status: Status,
+    pub counts: Counts,
 }
 
 /// How a run ended.

@@ -653,8 +653,8 @@ const ROWS: [Row; 65] = [
 fn told(ran: &Finished) -> (u8, u64, u64, &[u8]) {
     (
         ran.ended.status.code(),
-        ran.ended.solutions,
-        ran.ended.nodes,
+        ran.ended.counts.solutions,
+        ran.ended.counts.nodes,
         ran.written.as_slice(),
     )
 }

@@ -235,12 +235,9 @@ pub record MayBeAdded (p : Problem) (c : Con) : Type 0 where
   pub room : length p.cons < CONSTRAINTS
   pub cells : cells_of p + cell_count c ≤ CELLS
 
-pub may_be_added : (p : Problem) → IsLawful p → (ts rest : List Terminal) (c : Con) → AreFair ts → constraint_at p NESTING (before_all p) ts ≡ Ok (c, rest) → MayBeAdded p c
-may_be_added p lawful ts rest c fair is =
-    let read = subst (Said (constraint_spec p NESTING (before_all p)) (constraint_at p NESTING (before_all p)) ts) is ((constraint_law p NESTING (before_all p)).said ts) in
-    let tree_fair = all_front IsFairToken (spell_constraint read.tree) rest (subst AreFair read.parts fair) in
-    let kept = constraint_kept p lawful read.tree NESTING (before_all p) lawful.few_cells read.kept tree_fair in
-    let con = subst (IsKept p (cells_of p) NESTING) read.means kept in
+pub tree_may_be_added : (p : Problem) → IsLawful p → (c : Constraint) → breaks_constraint p c NESTING (before_all p) ≡ [] → AreFair (spell_constraint c) → MayBeAdded p (value_constraint p c (cells_of p))
+tree_may_be_added p lawful c kept fair =
+    let con = constraint_kept p lawful c NESTING (before_all p) lawful.few_cells kept fair in
     record {
       lawful = record {
         named = con.named;
@@ -252,6 +249,12 @@ may_be_added p lawful ts rest c fair is =
         nested = con.nested;
         written = con.written;
       };
-      room = not_at_most CONSTRAINTS (length p.cons) (room_for p lawful read.tree NESTING (before_all p) read.kept);
+      room = not_at_most CONSTRAINTS (length p.cons) (room_for p lawful c NESTING (before_all p) kept);
       cells = con.room;
     }
+
+pub may_be_added : (p : Problem) → IsLawful p → (ts rest : List Terminal) (c : Con) → AreFair ts → constraint_at p NESTING (before_all p) ts ≡ Ok (c, rest) → MayBeAdded p c
+may_be_added p lawful ts rest c fair is =
+    let read = subst (Said (constraint_spec p NESTING (before_all p)) (constraint_at p NESTING (before_all p)) ts) is ((constraint_law p NESTING (before_all p)).said ts) in
+    let tree_fair = all_front IsFairToken (spell_constraint read.tree) rest (subst AreFair read.parts fair) in
+    subst (MayBeAdded p) read.means (tree_may_be_added p lawful read.tree read.kept tree_fair)

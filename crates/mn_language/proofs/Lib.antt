@@ -9,3 +9,4 @@ pub mod TextLaw
 pub mod Verdicts
 pub mod Lexable
 pub mod WorkedTexts
+pub mod LawfulTexts

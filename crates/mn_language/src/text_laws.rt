@@ -1,5 +1,6 @@
 //! Laws of whole texts: what each stands for is unique, and each has one verdict. The functions do nothing.
 ghost use Rattle.std.specs.Prelude.{◌≡◌, List, ℕ, Result};
+ghost use Rattle.mn_model.specs.Lawful.{IsLawful};
 ghost use Rattle.mn_model.specs.Problem.{Problem};
 ghost use Rattle.mn_model.specs.declared.refusal.Refusal.{Refusal};
 ghost use Rattle.mn_language.specs.Texts.{Reads, IsVerdict};
@@ -13,4 +14,10 @@ pub fn one_instance()
 pub fn one_verdict()
     ensures some { (text : List ℕ) → (r : Result Problem Refusal) × IsVerdict text r }
     ensures one { (text : List ℕ) (r q : Result Problem Refusal) → IsVerdict text r → IsVerdict text q → r ≡ q }
+{}
+
+/// A law: whatever a text stands for is a lawful instance. So the language has no text that declares a name twice, names a
+/// variable that isn't there, or passes a limit.
+pub fn texts_are_lawful()
+    ensures { (text : List ℕ) (p : Problem) → Reads text p → IsLawful p }
 {}

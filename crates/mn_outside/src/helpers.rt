@@ -105,7 +105,8 @@ fn fetch_more<F: Files>(
     Ok(count)
 }
 
-fn line_count(bytes: &[u8]) -> u64
+/// How many lines end in the bytes.
+pub fn line_count(bytes: &[u8]) -> u64
     ensures count { result ≡ line_ends bytes.now }
     ensures within { result ≤ length bytes.now }
 {

@@ -17,7 +17,7 @@ mod named;
 mod outside;
 mod real;
 
-pub use helpers::{FetchFault, append_all, fetch_all, put_all};
+pub use helpers::{FetchFault, append_all, fetch_all, line_count, put_all};
 pub use mem_files::MemFiles;
 pub use mem_sink::MemSink;
 pub use outside::{Failed, Files, Sink};

@@ -5,6 +5,7 @@ use Rattle.std.specs.Ordering.{int_eq}
 use Rattle.std.proofs.lemmas.Bool.{or_parts, or_cases, not-false}
 use Rattle.std.proofs.lemmas.Bool.Decides.{Decides-int_eq}
 use Rattle.std.proofs.lemmas.List.{length-map, length_push}
+use Rattle.mn_lexer.specs.Forms.{IsWord}
 use Rattle.mn_lexer.specs.Terminals.{Terminal, word, number, head, mark}
 use Rattle.mn_lexer.specs.declared.marks.Mark.TheVariants.{CloseSquare, Comma}
 use Rattle.mn_model.specs.Domain.{IsValue}
@@ -30,10 +31,10 @@ use Rattle.mn_references.specs.declared.want.Unfit.TheVariants.{Form, Length}
 use Rattle.mn_references.proofs.Unbroken.{token_kept, part_kept, behind_kept, when_kept, as_kind_kept, unfit_kept, lesser_kept, not_less, not_at_most, all_pass}
 use Rattle.mn_references.proofs.LawfulReferences.{IsGood, name_good, ref_good}
 
--- a token of the lexer: its number is a value
+-- a token of the lexer: its number is a value, and its word has the form of one
 abbrev pub IsFairToken : Terminal → Type 0
 IsFairToken (number z) = IsValue z
-IsFairToken (word bs) = Unit {0}
+IsFairToken (word bs) = IsWord bs
 IsFairToken (head bs) = Unit {0}
 IsFairToken (mark m) = Unit {0}
 

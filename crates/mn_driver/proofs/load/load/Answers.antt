@@ -12,7 +12,7 @@ returns-in-Err-clause-unloaded g c =
 
 pub returns-in-Ok-read-clause-model : goal.returns-in-Ok-read-clause-model
 returns-in-Ok-read-clause-model g c =
-    loaded c.one_instance.ensures (g.F.Files.content c.args.files.now) c.args.name.now c.as_slice-bytes.result.now c.in-Ok-read.inst
+    loaded c.one_instance.ensures (g.F.Files.content c.args.files.now) c.args.name.now c.as_slice-bytes.result.now c.in-Ok-read.inst c.lawful.ensures
     (subst (λ (bytes : List ℕ). IsFileAt (g.F.Files.content c.args.files.now) c.args.name.now bytes) (sym c.as_slice-bytes.ensures.value) c.in-Ok.ensures.whole) c.in-Ok-read.ensures.reads
 
 pub returns-clause-unloaded : goal.returns-clause-unloaded

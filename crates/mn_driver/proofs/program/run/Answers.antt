@@ -1,46 +1,50 @@
 use Rattle.std.proofs.Common.{map, string_bytes}
-use Rattle.mn_driver.specs.Counting.{counts_of}
+use Rattle.mn_driver.specs.Outputs.{input_of, output_of}
+use Rattle.mn_driver.specs.declared.status.Status.TheVariants.{Complete, Printed, Refused, Usage, ReadFault, WriteFault, DumpTooLong, NoMemory}
 use Rattle.mn_driver.proofs.Clauses as clauses
 use Rattle.mn_driver.proofs.program.run.Goals as goal
 
 pub returns-clause-complete : goal.returns-clause-complete
-returns-clause-complete g c = clauses.complete (g.F.Files.content c.args.files.now) (map string_bytes c.args.words.now.items) (g.F.Files.reading c.args.files.now) (g.F.Files.reading c.run_explained.new.files) (g.O.Sink.content c.args.out.now) (g.O.Sink.content c.run_explained.new.out) (g.O.Sink.faults c.args.out.now) (g.O.Sink.faults c.run_explained.new.out) c.run_explained.result.status (counts_of c.run_explained.result) c.run_explained.ensures.explained
-
-pub returns-clause-write_fault : goal.returns-clause-write_fault
-returns-clause-write_fault g c = clauses.cut (g.F.Files.content c.args.files.now) (map string_bytes c.args.words.now.items) (g.F.Files.reading c.args.files.now) (g.F.Files.reading c.run_explained.new.files) (g.O.Sink.content c.args.out.now) (g.O.Sink.content c.run_explained.new.out) (g.O.Sink.faults c.args.out.now) (g.O.Sink.faults c.run_explained.new.out) c.run_explained.result.status (counts_of c.run_explained.result) c.run_explained.ensures.explained
-
-pub returns-clause-read_fault : goal.returns-clause-read_fault
-returns-clause-read_fault g c = clauses.read_fault (g.F.Files.content c.args.files.now) (map string_bytes c.args.words.now.items) (g.F.Files.reading c.args.files.now) (g.F.Files.reading c.run_explained.new.files) (g.O.Sink.content c.args.out.now) (g.O.Sink.content c.run_explained.new.out) (g.O.Sink.faults c.args.out.now) (g.O.Sink.faults c.run_explained.new.out) c.run_explained.result.status (counts_of c.run_explained.result) c.run_explained.ensures.explained
-
-pub returns-clause-no_memory : goal.returns-clause-no_memory
-returns-clause-no_memory g c = clauses.no_memory (g.F.Files.content c.args.files.now) (map string_bytes c.args.words.now.items) (g.F.Files.reading c.args.files.now) (g.F.Files.reading c.run_explained.new.files) (g.O.Sink.content c.args.out.now) (g.O.Sink.content c.run_explained.new.out) (g.O.Sink.faults c.args.out.now) (g.O.Sink.faults c.run_explained.new.out) c.run_explained.result.status (counts_of c.run_explained.result) c.run_explained.ensures.explained
-
-pub returns-clause-refused : goal.returns-clause-refused
-returns-clause-refused g c = clauses.refused (g.F.Files.content c.args.files.now) (map string_bytes c.args.words.now.items) (g.F.Files.reading c.args.files.now) (g.F.Files.reading c.run_explained.new.files) (g.O.Sink.content c.args.out.now) (g.O.Sink.content c.run_explained.new.out) (g.O.Sink.faults c.args.out.now) (g.O.Sink.faults c.run_explained.new.out) c.run_explained.result.status (counts_of c.run_explained.result) c.run_explained.ensures.explained
-
-pub returns-clause-usage : goal.returns-clause-usage
-returns-clause-usage g c = clauses.usage (g.F.Files.content c.args.files.now) (map string_bytes c.args.words.now.items) (g.F.Files.reading c.args.files.now) (g.F.Files.reading c.run_explained.new.files) (g.O.Sink.content c.args.out.now) (g.O.Sink.content c.run_explained.new.out) (g.O.Sink.faults c.args.out.now) (g.O.Sink.faults c.run_explained.new.out) c.run_explained.result.status (counts_of c.run_explained.result) c.run_explained.ensures.explained
-
-pub returns-clause-broken : goal.returns-clause-broken
-returns-clause-broken g c = clauses.broken (g.F.Files.content c.args.files.now) (map string_bytes c.args.words.now.items) (g.F.Files.reading c.args.files.now) (g.F.Files.reading c.run_explained.new.files) (g.O.Sink.content c.args.out.now) (g.O.Sink.content c.run_explained.new.out) (g.O.Sink.faults c.args.out.now) (g.O.Sink.faults c.run_explained.new.out) c.run_explained.result.status (counts_of c.run_explained.result) c.run_explained.ensures.explained
-
-pub returns-clause-model : goal.returns-clause-model
-returns-clause-model g c = clauses.model_status (g.F.Files.content c.args.files.now) (map string_bytes c.args.words.now.items) (g.F.Files.reading c.args.files.now) (g.F.Files.reading c.run_explained.new.files) (g.O.Sink.content c.args.out.now) (g.O.Sink.content c.run_explained.new.out) (g.O.Sink.faults c.args.out.now) (g.O.Sink.faults c.run_explained.new.out) c.run_explained.result.status (counts_of c.run_explained.result) c.run_explained.ensures.explained c.one_verdict.ensures.one
-
-pub returns-clause-refuses : goal.returns-clause-refuses
-returns-clause-refuses g c = clauses.refuses (g.F.Files.content c.args.files.now) (map string_bytes c.args.words.now.items) (g.F.Files.reading c.args.files.now) (g.F.Files.reading c.run_explained.new.files) (g.O.Sink.content c.args.out.now) (g.O.Sink.content c.run_explained.new.out) (g.O.Sink.faults c.args.out.now) (g.O.Sink.faults c.run_explained.new.out) c.run_explained.result.status (counts_of c.run_explained.result) c.run_explained.ensures.explained c.one_verdict.ensures.one
-
-pub returns-clause-absent : goal.returns-clause-absent
-returns-clause-absent g c = clauses.absent_status_is (g.F.Files.content c.args.files.now) (map string_bytes c.args.words.now.items) (g.F.Files.reading c.args.files.now) (g.F.Files.reading c.run_explained.new.files) (g.O.Sink.content c.args.out.now) (g.O.Sink.content c.run_explained.new.out) (g.O.Sink.faults c.args.out.now) (g.O.Sink.faults c.run_explained.new.out) c.run_explained.result.status (counts_of c.run_explained.result) c.run_explained.ensures.explained
-
-pub returns-clause-printed : goal.returns-clause-printed
-returns-clause-printed g c = clauses.printed (g.F.Files.content c.args.files.now) (map string_bytes c.args.words.now.items) (g.F.Files.reading c.args.files.now) (g.F.Files.reading c.run_explained.new.files) (g.O.Sink.content c.args.out.now) (g.O.Sink.content c.run_explained.new.out) (g.O.Sink.faults c.args.out.now) (g.O.Sink.faults c.run_explained.new.out) c.run_explained.result.status (counts_of c.run_explained.result) c.run_explained.ensures.explained c.one_verdict.ensures.one
+returns-clause-complete g c = clauses.of_status (input_of g.F.Files.content g.F.Files.reading c.args.files.now c.finished.new.files) (map string_bytes c.args.words.now.items) (output_of g.O.Sink.content g.O.Sink.faults c.args.out.now c.finished.new.out) c.finished.result.status c.finished.result.counts c.finished.ensures.ends Complete
 
 pub returns-clause-dumped : goal.returns-clause-dumped
-returns-clause-dumped g c = clauses.dumped (g.F.Files.content c.args.files.now) (map string_bytes c.args.words.now.items) (g.F.Files.reading c.args.files.now) (g.F.Files.reading c.run_explained.new.files) (g.O.Sink.content c.args.out.now) (g.O.Sink.content c.run_explained.new.out) (g.O.Sink.faults c.args.out.now) (g.O.Sink.faults c.run_explained.new.out) c.run_explained.result.status (counts_of c.run_explained.result) c.run_explained.ensures.explained
+returns-clause-dumped g c = clauses.of_status (input_of g.F.Files.content g.F.Files.reading c.args.files.now c.finished.new.files) (map string_bytes c.args.words.now.items) (output_of g.O.Sink.content g.O.Sink.faults c.args.out.now c.finished.new.out) c.finished.result.status c.finished.result.counts c.finished.ensures.ends Printed
+
+pub returns-clause-write_fault : goal.returns-clause-write_fault
+returns-clause-write_fault g c = clauses.of_status (input_of g.F.Files.content g.F.Files.reading c.args.files.now c.finished.new.files) (map string_bytes c.args.words.now.items) (output_of g.O.Sink.content g.O.Sink.faults c.args.out.now c.finished.new.out) c.finished.result.status c.finished.result.counts c.finished.ensures.ends WriteFault
+
+pub returns-clause-read_fault : goal.returns-clause-read_fault
+returns-clause-read_fault g c = clauses.of_status (input_of g.F.Files.content g.F.Files.reading c.args.files.now c.finished.new.files) (map string_bytes c.args.words.now.items) (output_of g.O.Sink.content g.O.Sink.faults c.args.out.now c.finished.new.out) c.finished.result.status c.finished.result.counts c.finished.ensures.ends ReadFault
+
+pub returns-clause-no_memory : goal.returns-clause-no_memory
+returns-clause-no_memory g c = clauses.of_status (input_of g.F.Files.content g.F.Files.reading c.args.files.now c.finished.new.files) (map string_bytes c.args.words.now.items) (output_of g.O.Sink.content g.O.Sink.faults c.args.out.now c.finished.new.out) c.finished.result.status c.finished.result.counts c.finished.ensures.ends NoMemory
 
 pub returns-clause-dump_too_long : goal.returns-clause-dump_too_long
-returns-clause-dump_too_long g c = clauses.dump_too_long (g.F.Files.content c.args.files.now) (map string_bytes c.args.words.now.items) (g.F.Files.reading c.args.files.now) (g.F.Files.reading c.run_explained.new.files) (g.O.Sink.content c.args.out.now) (g.O.Sink.content c.run_explained.new.out) (g.O.Sink.faults c.args.out.now) (g.O.Sink.faults c.run_explained.new.out) c.run_explained.result.status (counts_of c.run_explained.result) c.run_explained.ensures.explained
+returns-clause-dump_too_long g c = λ n. clauses.of_status (input_of g.F.Files.content g.F.Files.reading c.args.files.now c.finished.new.files) (map string_bytes c.args.words.now.items) (output_of g.O.Sink.content g.O.Sink.faults c.args.out.now c.finished.new.out) c.finished.result.status c.finished.result.counts c.finished.ensures.ends (DumpTooLong n)
+
+pub returns-clause-refused : goal.returns-clause-refused
+returns-clause-refused g c = λ why. clauses.of_status (input_of g.F.Files.content g.F.Files.reading c.args.files.now c.finished.new.files) (map string_bytes c.args.words.now.items) (output_of g.O.Sink.content g.O.Sink.faults c.args.out.now c.finished.new.out) c.finished.result.status c.finished.result.counts c.finished.ensures.ends (Refused why)
+
+pub returns-clause-usage : goal.returns-clause-usage
+returns-clause-usage g c = λ rule. clauses.of_status (input_of g.F.Files.content g.F.Files.reading c.args.files.now c.finished.new.files) (map string_bytes c.args.words.now.items) (output_of g.O.Sink.content g.O.Sink.faults c.args.out.now c.finished.new.out) c.finished.result.status c.finished.result.counts c.finished.ensures.ends (Usage rule)
+
+pub returns-clause-broken : goal.returns-clause-broken
+returns-clause-broken g c = clauses.broken (input_of g.F.Files.content g.F.Files.reading c.args.files.now c.finished.new.files) (map string_bytes c.args.words.now.items) (output_of g.O.Sink.content g.O.Sink.faults c.args.out.now c.finished.new.out) c.finished.result.status c.finished.result.counts c.finished.ensures.ends
+
+pub returns-clause-absent : goal.returns-clause-absent
+returns-clause-absent g c = clauses.absent (input_of g.F.Files.content g.F.Files.reading c.args.files.now c.finished.new.files) (map string_bytes c.args.words.now.items) (output_of g.O.Sink.content g.O.Sink.faults c.args.out.now c.finished.new.out) c.finished.result.status c.finished.result.counts c.finished.ensures.ends
+
+pub returns-clause-model : goal.returns-clause-model
+returns-clause-model g c = clauses.model (input_of g.F.Files.content g.F.Files.reading c.args.files.now c.finished.new.files) (map string_bytes c.args.words.now.items) (output_of g.O.Sink.content g.O.Sink.faults c.args.out.now c.finished.new.out) c.finished.result.status c.finished.result.counts c.finished.ensures.ends c.one_verdict.ensures.one
+
+pub returns-clause-printed : goal.returns-clause-printed
+returns-clause-printed g c = clauses.printed (input_of g.F.Files.content g.F.Files.reading c.args.files.now c.finished.new.files) (map string_bytes c.args.words.now.items) (output_of g.O.Sink.content g.O.Sink.faults c.args.out.now c.finished.new.out) c.finished.result.status c.finished.result.counts c.finished.ensures.ends c.one_verdict.ensures.one
 
 pub returns-clause-redumped : goal.returns-clause-redumped
-returns-clause-redumped g c = clauses.redumped (g.F.Files.content c.args.files.now) (map string_bytes c.args.words.now.items) (g.F.Files.reading c.args.files.now) (g.F.Files.reading c.run_explained.new.files) (g.O.Sink.content c.args.out.now) (g.O.Sink.content c.run_explained.new.out) (g.O.Sink.faults c.args.out.now) (g.O.Sink.faults c.run_explained.new.out) c.run_explained.result.status (counts_of c.run_explained.result) c.run_explained.ensures.explained c.one_verdict.ensures.one
+returns-clause-redumped g c = clauses.redumped (input_of g.F.Files.content g.F.Files.reading c.args.files.now c.finished.new.files) (map string_bytes c.args.words.now.items) (output_of g.O.Sink.content g.O.Sink.faults c.args.out.now c.finished.new.out) c.finished.result.status c.finished.result.counts c.finished.ensures.ends c.one_verdict.ensures.one
+
+pub returns-clause-refuses : goal.returns-clause-refuses
+returns-clause-refuses g c = clauses.refuses (input_of g.F.Files.content g.F.Files.reading c.args.files.now c.finished.new.files) (map string_bytes c.args.words.now.items) (output_of g.O.Sink.content g.O.Sink.faults c.args.out.now c.finished.new.out) c.finished.result.status c.finished.result.counts c.finished.ensures.ends c.one_verdict.ensures.one
+
+pub returns-clause-each_once : goal.returns-clause-each_once
+returns-clause-each_once g c = λ p lawful. (c.records_are_owed.ensures.distinct p (c.lawful_problems_are_fit.ensures.ascend p lawful), c.records_are_owed.ensures.ordered p (c.lawful_problems_are_fit.ensures.ascend p lawful))
