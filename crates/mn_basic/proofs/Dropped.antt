@@ -1,9 +1,10 @@
 -- A value that is taken out of a place, and places that differ.
-use Rattle.std.proofs.Common.{◌≡◌, ◌≢◌, ℕ, ℤ, pos, ◌-ℤ◌, ◌⊎◌, inl, inr, Bool, true, false, not, IsTrue, List, Result, Ok, refl, sym, subst, ap, ◌∙◌, true≢false}
+use Rattle.std.proofs.Common.{◌≡◌, ◌≢◌, ℕ, ℤ, pos, ◌-ℤ◌, ◌⊎◌, inl, inr, Bool, true, false, not, IsTrue, List, Result, Ok, Err, OnOk, refl, sym, subst, ap, ◌∙◌, true≢false}
 use Rattle.std.specs.Ordering.{int_eq}
 use Rattle.mn_model.specs.Decided.{Decided, decide_int}
 use Rattle.mn_model.specs.Domain.{Has}
 use Rattle.mn_model.specs.Variable.{number_of}
+use Rattle.mn_model.specs.declared.constraint.Con.TheVariants as con
 use Rattle.mn_model.specs.declared.constraint.Term.{Term}
 use Rattle.mn_model.specs.declared.constraint.Term.TheVariants.{Var, Const, Not}
 use Rattle.mn_model.specs.declared.declaration.Tuples.{Tuples}
@@ -17,16 +18,19 @@ use Rattle.mn_closure.specs.Levels.{Arc, Hull}
 use Rattle.mn_closure.specs.Supports.{IsOpen}
 use Rattle.mn_closure.proofs.Wider.{wider_place}
 use Rattle.mn_domains.specs.Changes.{is_not}
-use Rattle.mn_domains.specs.Sets.{Sets}
-use Rattle.mn_domains.proofs.Filtered.{eq_so, eq_true}
-use Rattle.mn_prop.specs.Contexts.{ChangedAt, Context, IsLeastAt, IsNamed, MayGoAt}
+use Rattle.mn_domains.proofs.Filtered.{eq_so, is_not_so, is_not_true}
+use Rattle.mn_prop.specs.Contexts.{ChangedAt, Context, IsChange, IsNamed, MayGoAt, SomePasses, box_of, kept_at, vars_of}
+use Rattle.mn_prop.specs.Losses.{Unsupported}
 use Rattle.mn_prop.specs.Passes.{AllPass, IsStep}
+use Rattle.mn_prop.specs.Posts.{IsReady, beside}
 use Rattle.mn_prop.specs.declared.context.Fail.{Fail}
-use Rattle.mn_prop.proofs.Stepping.{as_step, change_step, no_step, then_step}
-use Rattle.mn_basic.specs.Literals.{EachAsked}
-use Rattle.mn_basic.specs.Pairs.{IsApart, SomeAt, pair_of}
-use Rattle.mn_basic.specs.declared.relation.Relation.TheVariants.{Differ}
-use Rattle.mn_basic.proofs.Ordered.{first_partner, pair_closed, second_partner}
+use Rattle.mn_prop.proofs.Boxing.{kept_passes}
+use Rattle.mn_prop.proofs.Ended.{least_of}
+use Rattle.mn_prop.proofs.PlaceLemmas.{back}
+use Rattle.mn_prop.proofs.Stepping.{as_step, box_again, by_rule, change_step, changed_box, goes_inside, same_vars}
+use Rattle.mn_basic.specs.Binaries.{EachAsked, SomeAt}
+use Rattle.mn_basic.specs.Losses.{ThatAt}
+use Rattle.mn_basic.proofs.Binary.{IsBinary, closed_first, closed_second, closed_two, first_named, no_first, no_second, second_named}
 
 -- an end of a set is one of each part that has it
 end_inside : (vars : List Variable) (inner outer : List (List ℤ)) (v : ℕ) (a : ℤ) → IsBox vars inner → IsBox vars outer → Inside inner outer → Has (set_of inner v) a → IsEnd a (set_of outer v) → IsEnd a (set_of inner v)
@@ -57,51 +61,95 @@ asked_goes vars box (Var v) a asked = λ bounded has. asked.ends (inl bounded)
 asked_goes vars box (Const k) a asked = tt
 asked_goes vars box (Not v) a asked = λ bounded has. asked.ends (inl bounded)
 
-not_so : (a b : ℤ) → is_not a b ≡ true → b ≢ a
-not_so a b e same = true≢false (sym e ∙ ap not (eq_true b a same))
-
-so_not : (a b : ℤ) → b ≢ a → is_not a b ≡ true
-so_not a b differs = by (int_eq b a) refl
+-- what isn't another value is the value
+taken_alone : (a b : ℤ) → is_not a b ≡ false → b ≡ a
+taken_alone a b e = by (int_eq b a) refl
   where
-    by : (t : Bool) → int_eq b a ≡ t → not t ≡ true
-    by true e = absurd (differs (eq_so b a e))
-    by false e = refl
+    by : (t : Bool) → int_eq b a ≡ t → b ≡ a
+    by true same = eq_so b a same
+    by false differs = absurd (true≢false (sym (ap not differs) ∙ e))
 
-pub stays_step : (t : Term) (a : ℤ) (s : Sets) → (MayGoAt s.vars t s.sets a → ⊥) → IsStep (EachAsked s.vars t (λ b. b ≢ a)) s s (Ok tt)
-stays_step t a s stays = no_step (EachAsked s.vars t (λ b. b ≢ a)) s (λ b asked same. stays (asked_goes s.vars s.sets t a (subst (Asked Arc s.vars s.sets t) same asked)))
+-- all values that are left after a change pass
+kept_all : (p : ℤ → Bool) (t : Term) (sets : List (List ℤ)) → SomePasses p t sets → AllPass p t (kept_at p t sets)
+kept_all p (Var v) sets some a has = kept_passes p (number_of v) sets a has
+kept_all p (Const k) sets some a has = ap p (sym has ∙ some.there) ∙ some.passes
+kept_all p (Not v) sets some a has = ap p (sym (back a)) ∙ kept_passes (λ b. p (pos 1 -ℤ b)) (number_of v) sets (pos 1 -ℤ a) has
 
-pub drop_step : (t : Term) (a : ℤ) (old new : Context) (result : Result (Unit {0}) Fail) → IsBox old.doms.vars old.doms.sets → IsNamed old.doms.sets t → MayGoAt old.doms.vars t old.doms.sets a → ChangedAt (is_not a) t old new result
-    → IsStep (EachAsked old.doms.vars t (λ b. b ≢ a)) old.doms new.doms result
-drop_step t a old new result is named may changed =
-    as_step (AllPass (is_not a) t) (EachAsked old.doms.vars t (λ b. b ≢ a)) old.doms new.doms result
-    (λ box lawful i each b has. so_not a b (λ same. each a (goes_asked old.doms.vars box old.doms.sets t a lawful is i may (subst (PlaceHas box t) same has)) refl))
-    (λ all b asked. not_so a b (all b asked.there)) (change_step (is_not a) t old new result is named changed)
+pub change_passes : (p : ℤ → Bool) (t : Term) (old new : Context) → IsChange p t old new → AllPass p t (box_of new)
+change_passes p t old new change = subst (AllPass p t) (sym (changed_box change)) (kept_all p t (box_of old) change.some)
+
+-- ---- one value
+
+module _ (t : Term) (a : ℤ) where
+  pub stays : (c : Context) → (MayGoAt (vars_of c) t (box_of c) a → ⊥) → EachAsked (vars_of c) t (λ b. b ≢ a) (box_of c)
+  stays c may b asked same = may (asked_goes (vars_of c) (box_of c) t a (subst (Asked Arc (vars_of c) (box_of c) t) same asked))
+
+  pub drop_step : (old new : Context) (result : Result (Unit {0}) Fail) → IsBox (vars_of old) (box_of old) → IsNamed (vars_of old) t → MayGoAt (vars_of old) t (box_of old) a → ChangedAt (is_not a) t old new result → IsStep (ThatAt t a) (EachAsked (vars_of old) t (λ b. b ≢ a)) old new result
+  drop_step old new result is named may changed =
+      as_step
+      (λ box lawful i each b has. is_not_true a b (λ same. each a (goes_asked (vars_of old) box (box_of old) t a lawful is i may (subst (PlaceHas box t) same has)) refl))
+      (λ all b asked. is_not_so a b (all b asked.there)) (change_step (is_not a) t named (λ b has out. (refl, taken_alone a b out)) changed)
+
+  pub dropped : (old new : Context) (result : Result (Unit {0}) Fail) → ChangedAt (is_not a) t old new result → OnOk result (EachAsked (vars_of old) t (λ b. b ≢ a) (box_of new))
+  dropped old new (Ok done) change = λ b asked. is_not_so a b (change_passes (is_not a) t old new change b asked.there)
+  dropped old new (Err fail) changed = tt
 
 -- ---- places that differ
 
-pub open_apart : (x y : Term) (s : Sets) → IsOpen s.sets x → IsStep (IsApart s.vars x y) s s (Ok tt)
-open_apart x y s two = no_step (IsApart s.vars x y) s (λ b asked. by b (decide_int two.one b))
-  where
-    by : (b : ℤ) → Decided (two.one ≡ b) → SomeAt s.sets x (λ a. a ≢ b)
-    by b (inl same) = record { value = two.another; there = two.has_another; has = λ e. two.differ (same ∙ sym e) }
-    by b (inr differs) = record { value = two.one; there = two.has_one; has = differs }
+pub is_diseq : (x y : Term) → IsBinary (con.Diseq x y) x y (λ a b. a ≢ b)
+is_diseq x y = record { arc = refl; two = refl; meets = λ lists a b m. m; met = λ lists a b m. m }
 
-pub apart_step : (x y : Term) (a : ℤ) (old new : Sets) (result : Result (Unit {0}) Fail) → IsLeastAt old.sets x a → IsAlone old.sets x a → IsStep (EachAsked old.vars y (λ b. b ≢ a)) old new result → IsStep (IsApart old.vars x y) old new result
-apart_step x y a old new result least alone step =
-    as_step (EachAsked old.vars y (λ b. b ≢ a)) (IsApart old.vars x y) old new result
-    (λ box is i apart b asked. (let some = apart b asked in let one : some.value ≡ a = alone some.value (wider_place box old.sets i x some.value some.there) in λ same. some.has (one ∙ sym same)))
-    (λ each b asked. record { value = a; there = least.there; has = λ same. each b asked (sym same) }) step
+module _ (x y : Term) (lists : List Tuples) where
+  other_at : (box : List (List ℤ)) (t : Term) (a : ℤ) → IsOpen box t → SomeAt box t (λ b. a ≢ b)
+  other_at box t a two = by (decide_int two.one a)
+    where
+      by : Decided (two.one ≡ a) → SomeAt box t (λ b. a ≢ b)
+      by (inl same) = record { value = two.another; there = two.has_another; has = λ e. two.differ (same ∙ e) }
+      by (inr differs) = record { value = two.one; there = two.has_one; has = λ e. differs (sym e) }
 
-pub again_apart : (x y : Term) (old mid new : Sets) (done : Unit {0}) (result : Result (Unit {0}) Fail) → IsBox old.vars old.sets → IsBox mid.vars mid.sets → IsStep (IsApart old.vars x y) old mid (Ok done) → IsStep (IsApart mid.vars y x) mid new result
-    → IsStep (λ box. IsApart old.vars x y box × IsApart old.vars y x box) old new result
-again_apart x y old mid new done result is_old is_mid one two = then_step (IsApart old.vars x y) (IsApart old.vars y x) old mid new done result is_old is_mid one (subst (λ vars. IsStep (IsApart vars y x) mid new result) one.takes.vars two)
+  -- where both have several values nothing is to be done
+  pub open_closed : (vars : List Variable) (box : List (List ℤ)) → IsOpen box x → IsOpen box y → LeafClosed vars lists (con.Diseq x y) box
+  open_closed vars box one two = closed_two (is_diseq x y) vars lists box (λ a asked. other_at box y a two) (λ b asked. (let some = other_at box x b one in record { value = some.value; there = some.there; has = λ e. some.has (sym e) }))
 
--- and so with the constraint that says it
-pub differ_step : (x y : Term) (lists : List Tuples) (old new : Sets) (result : Result (Unit {0}) Fail) → IsStep (λ box. IsApart old.vars x y box × IsApart old.vars y x box) old new result → IsStep (LeafClosed old.vars lists (pair_of Differ x y)) old new result
-differ_step x y lists old new result step =
-    as_step (λ box. IsApart old.vars x y box × IsApart old.vars y x box) (LeafClosed old.vars lists (pair_of Differ x y)) old new result
-    (λ box is i closed. (
-      λ b asked. second_partner Differ x y lists old.vars box b closed asked,
-      λ b asked. (let some = first_partner Differ x y lists old.vars box b closed asked in record { value = some.value; there = some.there; has = λ same. some.has (sym same) }),
-    ))
-    (λ both. pair_closed Differ x y lists old.vars old.sets (λ a asked. (let some = both.1 a asked in record { value = some.value; there = some.there; has = λ same. some.has (sym same) })) (λ b asked. both.0 b asked)) step
+  -- where the one has a alone, and no value of the other that has to be supported is a, the box is closed
+  pub first_apart : (vars : List Variable) (box : List (List ℤ)) (a : ℤ) → IsBox vars box → IsReady vars lists (con.Diseq x y) → IsAlone box x a → EachAsked vars y (λ b. b ≢ a) box → LeafClosed vars lists (con.Diseq x y) box
+  first_apart vars box a is ready alone each =
+      let mine = least_of Arc vars box x is (first_named (is_diseq x y) vars lists ready) in
+      let other = least_of Arc vars box y is (second_named (is_diseq x y) vars lists ready) in
+      closed_two (is_diseq x y) vars lists box (λ d asked. record { value = other.value; there = other.least.there; has = λ e. each other.value other.asked (sym e ∙ alone d asked.there) })
+      (λ b asked. record { value = mine.value; there = mine.least.there; has = λ e. each b asked (sym e ∙ alone mine.value mine.least.there) })
+
+  pub second_apart : (vars : List Variable) (box : List (List ℤ)) (a : ℤ) → IsBox vars box → IsReady vars lists (con.Diseq x y) → IsAlone box y a → EachAsked vars x (λ b. b ≢ a) box → LeafClosed vars lists (con.Diseq x y) box
+  second_apart vars box a is ready alone each =
+      let mine = least_of Arc vars box y is (second_named (is_diseq x y) vars lists ready) in
+      let other = least_of Arc vars box x is (first_named (is_diseq x y) vars lists ready) in
+      closed_two (is_diseq x y) vars lists box (λ b asked. record { value = mine.value; there = mine.least.there; has = λ e. each b asked (e ∙ alone mine.value mine.least.there) })
+      (λ d asked. record { value = other.value; there = other.least.there; has = λ e. each other.value other.asked (e ∙ alone d asked.there) })
+
+  -- so a step that takes it is one towards that
+  pub first_step : (old new : Context) (a : ℤ) (result : Result (Unit {0}) Fail) → IsBox (vars_of old) (box_of old) → IsReady (vars_of old) lists (con.Diseq x y) → IsAlone (box_of old) x a → IsStep (ThatAt y a) (EachAsked (vars_of old) y (λ b. b ≢ a)) old new result
+      → IsStep (Unsupported (beside lists (con.Diseq x y))) (LeafClosed (vars_of old) lists (con.Diseq x y)) old new result
+  first_step old new a result is ready alone step = by_rule (λ box i u b has that. no_first (is_diseq x y) lists box u b that.0 (λ d at differ. differ (alone d (wider_place box (box_of old) i x d at) ∙ sym that.1)))
+      (as_step
+      (λ box lawful i closed b asked. (let some = closed_second (is_diseq x y) (vars_of old) lists box b closed asked in λ same. some.has (alone some.value (wider_place box (box_of old) i x some.value some.there) ∙ sym same)))
+      (λ each. first_apart (vars_of old) (box_of old) a is ready alone each) step)
+
+  pub second_step : (old new : Context) (a : ℤ) (result : Result (Unit {0}) Fail) → IsBox (vars_of old) (box_of old) → IsReady (vars_of old) lists (con.Diseq x y) → IsAlone (box_of old) y a → IsStep (ThatAt x a) (EachAsked (vars_of old) x (λ b. b ≢ a)) old new result
+      → IsStep (Unsupported (beside lists (con.Diseq x y))) (LeafClosed (vars_of old) lists (con.Diseq x y)) old new result
+  second_step old new a result is ready alone step = by_rule (λ box i u b has that. no_second (is_diseq x y) lists box u b that.0 (λ d at differ. differ (that.1 ∙ sym (alone d (wider_place box (box_of old) i y d at)))))
+      (as_step
+      (λ box lawful i closed b asked. (let some = closed_first (is_diseq x y) (vars_of old) lists box b closed asked in λ same. some.has (same ∙ sym (alone some.value (wider_place box (box_of old) i y some.value some.there)))))
+      (λ each. second_apart (vars_of old) (box_of old) a is ready alone each) step)
+
+  -- and after it the box is closed
+  pub first_settles : (old new : Context) (a : ℤ) (result : Result (Unit {0}) Fail) → IsBox (vars_of old) (box_of old) → IsReady (vars_of old) lists (con.Diseq x y) → IsAlone (box_of old) x a → IsStep (ThatAt y a) (EachAsked (vars_of old) y (λ b. b ≢ a)) old new result
+      → OnOk result (EachAsked (vars_of old) y (λ b. b ≢ a) (box_of new)) → OnOk result (LeafClosed (vars_of old) lists (con.Diseq x y) (box_of new))
+  first_settles old new a (Ok done) is ready alone step each =
+      first_apart (vars_of old) (box_of new) a (subst (λ vars. IsBox vars (box_of new)) (same_vars step.loses) (box_again step.loses is)) ready (λ b has. alone b (wider_place (box_of new) (box_of old) (goes_inside step.loses) x b has)) each
+  first_settles old new a (Err fail) is ready alone step each = tt
+
+  pub second_settles : (old new : Context) (a : ℤ) (result : Result (Unit {0}) Fail) → IsBox (vars_of old) (box_of old) → IsReady (vars_of old) lists (con.Diseq x y) → IsAlone (box_of old) y a → IsStep (ThatAt x a) (EachAsked (vars_of old) x (λ b. b ≢ a)) old new result
+      → OnOk result (EachAsked (vars_of old) x (λ b. b ≢ a) (box_of new)) → OnOk result (LeafClosed (vars_of old) lists (con.Diseq x y) (box_of new))
+  second_settles old new a (Ok done) is ready alone step each =
+      second_apart (vars_of old) (box_of new) a (subst (λ vars. IsBox vars (box_of new)) (same_vars step.loses) (box_again step.loses is)) ready (λ b has. alone b (wider_place (box_of new) (box_of old) (goes_inside step.loses) y b has)) each
+  second_settles old new a (Err fail) is ready alone step each = tt

@@ -1,11 +1,7 @@
-pub mod Alone
+pub mod Binary
 pub mod Dropped
-pub mod Ended
-pub mod Lost
+pub mod Kept
 pub mod Numbered
 pub mod Ordered
-pub mod Paired
-pub mod Placed
 pub mod Reached
-pub mod Tied
-pub mod Tried
+pub mod Tying

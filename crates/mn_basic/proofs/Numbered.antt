@@ -1,42 +1,34 @@
 -- What is supported of a constraint of one place.
-use Rattle.std.proofs.Common.{◌≡◌, ◌≢◌, ℕ, zero, suc, ℤ, ◌≤ℤ◌, false, List, [], ◌∷◌, slice_get, Some, Result, refl, sym, subst, ap, ◌∙◌, arith}
+use Rattle.std.proofs.Common.{◌≡◌, ◌≢◌, ◌↔◌, ℕ, zero, suc, ◌<◌, ℤ, ◌≤ℤ◌, Bool, IsTrue, List, [], ◌∷◌, length, slice_get, Some, Result, refl, sym, subst, ap, ◌∙◌, arith}
 use Rattle.std.proofs.lemmas.Int.{ints}
 use Rattle.mn_model.specs.Parts.{places}
-use Rattle.mn_model.specs.declared.constraint.Con.{Con}
 use Rattle.mn_model.specs.declared.constraint.Term.{Term}
 use Rattle.mn_model.specs.declared.declaration.Tuples.{Tuples}
-use Rattle.mn_boxes.specs.Boxes.{IsBox}
+use Rattle.mn_boxes.specs.Boxes.{IsBox, Inside}
 use Rattle.mn_boxes.specs.Places.{PlaceHas}
 use Rattle.mn_boxes.specs.Sets.{Variable}
-use Rattle.mn_domains.specs.Sets.{Sets}
 use Rattle.mn_meaning.specs.Meaning.{Meets, at}
 use Rattle.mn_closure.specs.Closed.{Asked, LeafClosed}
 use Rattle.mn_closure.specs.Levels.{Arc, level}
 use Rattle.mn_closure.specs.Supports.{Choice, ChoiceWith, StandsAt, Supported, SupportedAt}
 use Rattle.mn_closure.proofs.Wider.{wider_place}
-use Rattle.mn_prop.specs.Contexts.{IsGreatestAt, IsLeastAt, IsNamed}
-use Rattle.mn_prop.specs.Passes.{IsReady, IsStep}
+use Rattle.mn_prop.specs.Contexts.{Context, IsGreatestAt, IsLeastAt, IsNamed, box_of, vars_of}
+use Rattle.mn_prop.specs.Losses.{Unsupported}
+use Rattle.mn_prop.specs.Passes.{IsStep, Narrows}
+use Rattle.mn_prop.specs.Posts.{HasAt, IsReady, beside}
 use Rattle.mn_prop.specs.declared.context.Fail.{Fail}
+use Rattle.mn_prop.proofs.Alone.{same_term}
+use Rattle.mn_prop.proofs.Ended.{greatest_of, least_of}
+use Rattle.mn_prop.proofs.Narrowing.{narrows_as}
 use Rattle.mn_prop.proofs.Ready.{ready_named}
-use Rattle.mn_prop.proofs.Stepping.{as_step}
-use Rattle.mn_basic.specs.Literals.{EachAsked, IsOneOf, literal_of}
-use Rattle.mn_basic.specs.Narrowing.{AllIn, IsIn, Narrows}
-use Rattle.mn_basic.specs.Trials.{is_pair}
+use Rattle.mn_prop.proofs.Stepping.{as_step, by_rule}
+use Rattle.mn_basic.specs.Binaries.{EachAsked}
+use Rattle.mn_basic.specs.Intervals.{AllIn, IsIn, OutOf}
+use Rattle.mn_basic.specs.Losses.{ThatAt}
+use Rattle.mn_basic.specs.Unaries.{IsOneOf, literal_of}
+use Rattle.mn_basic.specs.declared.interval.Interval.{Interval}
 use Rattle.mn_basic.specs.declared.numbers.Numbers.{Numbers}
 use Rattle.mn_basic.specs.declared.numbers.Numbers.TheVariants.{Is, IsNot, Among, NotAmong, Between, NotBetween, Within}
-use Rattle.mn_basic.specs.declared.span.Span.{Span}
-use Rattle.mn_basic.proofs.Alone.{same_term}
-use Rattle.mn_basic.proofs.Ended.{greatest_of, least_of}
-use Rattle.mn_basic.proofs.Tied.{between, narrows_as}
-
-pub literal_whole : (n : Numbers) (x : Term) → is_pair (literal_of n x) ≡ false
-literal_whole (Is k) x = refl
-literal_whole (IsNot k) x = refl
-literal_whole (Among ks) x = refl
-literal_whole (NotAmong ks) x = refl
-literal_whole (Between lo hi) x = refl
-literal_whole (NotBetween lo hi) x = refl
-literal_whole (Within ends) x = refl
 
 literal_level : (n : Numbers) (x : Term) → level (literal_of n x) ≡ Arc
 literal_level (Is k) x = refl
@@ -110,44 +102,66 @@ literal_closed n x lists vars box each = record { bare = λ none. absurd (filled
 closed_literal : (n : Numbers) (x : Term) (lists : List Tuples) (vars : List Variable) (box : List (List ℤ)) → LeafClosed vars lists (literal_of n x) box → EachAsked vars x (IsOneOf n) box
 closed_literal n x lists vars box closed a asked = supported_one n x lists a box (closed.supported 0 x a (literal_stands n x) (subst (λ l. Asked l vars box x a) (sym (literal_level n x)) asked))
 
-pub literal_named : (n : Numbers) (x : Term) (c : Con) (lists : List Tuples) (s : Sets) → c ≡ literal_of n x → IsBox s.vars s.sets → IsReady s.vars lists c → IsNamed s.sets x
-literal_named n x c lists s told is ready = ready_named s.vars lists c s.sets 0 x is ready (subst (λ d. StandsAt d 0 x) (sym told) (literal_stands n x))
+pub literal_named : (n : Numbers) (x : Term) (lists : List Tuples) (vars : List Variable) → IsReady vars lists (literal_of n x) → IsNamed vars x
+literal_named n x lists vars ready = ready_named (beside lists (literal_of n x)) 0 ready (literal_stands n x)
+
+-- a value that isn't one of the numbers isn't supported
+none_of_them : (n : Numbers) (x : Term) (lists : List Tuples) (box : List (List ℤ)) (u : Term) (a : ℤ) → u ≡ x → (IsOneOf n a → ⊥) → Unsupported (beside lists (literal_of n x)) box u a
+none_of_them n x lists box u a same other = (0, subst (StandsAt (literal_of n x) 0) (sym same) (literal_stands n x), λ supported. other (supported_one n x lists a box supported))
+
+-- whether a value is one of the numbers is whether it is supported
+pub one_told : (n : Numbers) (x : Term) (lists : List Tuples) (i : ℕ) (a : ℤ) (box : List (List ℤ)) (m : Bool) → i < length (places (literal_of n x)) → HasAt (literal_of n x) i a box → IsTrue m ↔ IsOneOf n a → IsTrue m ↔ Supported lists (literal_of n x) i a box
+one_told n x lists zero a box m within there tells = (λ e. one_supported n x lists a box (there x (literal_stands n x)) (tells.0 e), λ supported. tells.1 (supported_one n x lists a box supported))
+one_told n x lists (suc i) a box m within there tells = let one = ap length (literal_places n x) in absurd (omega (arith, one, within))
 
 -- ---- steps
 
--- where the ends of a place are in a span, all of it is
-all_in : (n : Numbers) (x : Term) (lists : List Tuples) (vars : List Variable) (box : List (List ℤ)) (s : Span) → IsBox vars box → IsReady vars lists (literal_of n x) → ((b : ℤ) → PlaceHas box x b → IsOneOf n b → IsIn s b) → LeafClosed vars lists (literal_of n x) box → AllIn s x box
+between : (s : Interval) (low high a : ℤ) → IsIn s low → IsIn s high → low ≤ℤ a → a ≤ℤ high → IsIn s a
+between s low high a one another from to = (let le = one.0 in omega (arith, ints, le, from), let le = another.1 in omega (arith, ints, le, to))
+
+-- where the ends of a place are in an interval, all of it is
+all_in : (n : Numbers) (x : Term) (lists : List Tuples) (vars : List Variable) (box : List (List ℤ)) (s : Interval) → IsBox vars box → IsReady vars lists (literal_of n x) → ((b : ℤ) → PlaceHas box x b → IsOneOf n b → IsIn s b) → LeafClosed vars lists (literal_of n x) box → AllIn s x box
 all_in n x lists vars box s is ready within closed a has =
-    let named = ready_named vars lists (literal_of n x) box 0 x is ready (literal_stands n x) in
+    let named = literal_named n x lists vars ready in
     let least = least_of Arc vars box x is named in
     let great = greatest_of Arc vars box x is named in
     let each = closed_literal n x lists vars box closed in
     between s least.value great.value a (within least.value least.least.there (each least.value least.asked)) (within great.value great.greatest.there (each great.value great.asked)) (least.least.least a has) (great.greatest.greatest a has)
 
-pub reach_narrows : (n : Numbers) (x : Term) (c : Con) (lists : List Tuples) (own s : Span) (lo hi : ℤ) (old new : Sets) (result : Result (Unit {0}) Fail) → c ≡ literal_of n x → IsReady old.vars lists c → IsLeastAt old.sets x lo → IsGreatestAt old.sets x hi
-    → ((b : ℤ) → lo ≤ℤ b → b ≤ℤ hi → IsIn own b) → ((b : ℤ) → IsOneOf n b → IsIn own b → IsIn s b) → IsStep (AllIn s x) old new result → Narrows (LeafClosed old.vars lists c) old new result
-reach_narrows n x c lists own s lo hi old new result told ready low high of reach step =
-    narrows_as (AllIn s x) (LeafClosed old.vars lists c) old new result
-    (λ box is i closed. all_in n x lists old.vars box s is (subst (IsReady old.vars lists) told ready)
-    (λ b has one. (let had = wider_place box old.sets i x b has in reach b one (of b (low.least b had) (high.greatest b had)))) (subst (λ d. LeafClosed old.vars lists d box) told closed))
-    step
+module _ (n : Numbers) (x : Term) (lists : List Tuples) (s : Interval) (old new : Context) (result : Result (Unit {0}) Fail) (ready : IsReady (vars_of old) lists (literal_of n x)) where
+  pub reach_narrows : (own : Interval) (lo hi : ℤ) → IsLeastAt (box_of old) x lo → IsGreatestAt (box_of old) x hi → own.lo ≡ lo → own.hi ≡ hi → ((b : ℤ) → IsOneOf n b → IsIn own b → IsIn s b) → IsStep (OutOf s x) (AllIn s x) old new result
+      → Narrows (Unsupported (beside lists (literal_of n x))) (LeafClosed (vars_of old) lists (literal_of n x)) old new result
+  reach_narrows own lo hi low high is_lo is_hi reach step =
+      narrows_as (λ box is i closed. all_in n x lists (vars_of old) box s is ready (λ b has one. here box i b has one) closed)
+      (by_rule (λ box i u a has out. none_of_them n x lists box u a out.0 (λ one. out.1 (here box i a (subst (λ t. PlaceHas box t a) out.0 has) one))) step)
+    where
+      here : (box : List (List ℤ)) → Inside box (box_of old) → (b : ℤ) → PlaceHas box x b → IsOneOf n b → IsIn s b
+      here box i b has one =
+          let had = wider_place box (box_of old) i x b has in
+          let from = low.least b had in
+          let to = high.greatest b had in
+          reach b one (omega (arith, ints, from, is_lo), omega (arith, ints, to, is_hi))
 
--- where the numbers are those of the span
-span_step : (n : Numbers) (x : Term) (c : Con) (lists : List Tuples) (s : Span) (old new : Sets) (result : Result (Unit {0}) Fail) → c ≡ literal_of n x → IsReady old.vars lists c → ((b : ℤ) → IsOneOf n b → IsIn s b) → ((b : ℤ) → IsIn s b → IsOneOf n b) → IsStep (AllIn s x) old new result
-    → IsStep (LeafClosed old.vars lists c) old new result
-span_step n x c lists s old new result told ready within only step = subst (λ d. IsStep (LeafClosed old.vars lists d) old new result) (sym told)
-    (as_step (AllIn s x) (LeafClosed old.vars lists (literal_of n x)) old new result (λ box is i closed. all_in n x lists old.vars box s is (subst (IsReady old.vars lists) told ready) (λ b has one. within b one) closed)
-    (λ all. literal_closed n x lists old.vars old.sets (λ a asked. only a (all a asked.there))) step)
+  -- where the numbers are those of the interval
+  interval_step : ((b : ℤ) → IsOneOf n b → IsIn s b) → ((b : ℤ) → IsIn s b → IsOneOf n b) → IsStep (OutOf s x) (AllIn s x) old new result → IsStep (Unsupported (beside lists (literal_of n x))) (LeafClosed (vars_of old) lists (literal_of n x)) old new result
+  interval_step within only step =
+      as_step (λ box is i closed. all_in n x lists (vars_of old) box s is ready (λ b has one. within b one) closed)
+      (λ all. literal_closed n x lists (vars_of old) (box_of old) (λ a asked. only a (all a asked.there)))
+      (by_rule (λ box i u a has out. none_of_them n x lists box u a out.0 (λ one. out.1 (within a one))) step)
 
-pub is_step : (n : Numbers) (k : ℤ) (x : Term) (c : Con) (lists : List Tuples) (s : Span) (old new : Sets) (result : Result (Unit {0}) Fail) → n ≡ Is k → c ≡ literal_of n x → IsReady old.vars lists c → ((b : ℤ) → k ≤ℤ b → b ≤ℤ k → IsIn s b) → ((b : ℤ) → IsIn s b → (k ≤ℤ b) × (b ≤ℤ k))
-    → IsStep (AllIn s x) old new result → IsStep (LeafClosed old.vars lists c) old new result
-is_step n k x c lists s old new result is told ready within only step =
-    span_step (Is k) x c lists s old new result (told ∙ ap (λ m. literal_of m x) is) ready (λ b same. within b (omega (arith, ints, same)) (omega (arith, ints, same))) (λ b in_s. (let both = only b in_s in let from = both.0 in let to = both.1 in omega (arith, ints, from, to))) step
+  pub is_step : (k : ℤ) → n ≡ Is k → s.lo ≡ k → s.hi ≡ k → IsStep (OutOf s x) (AllIn s x) old new result → IsStep (Unsupported (beside lists (literal_of n x))) (LeafClosed (vars_of old) lists (literal_of n x)) old new result
+  is_step k is is_lo is_hi step = interval_step
+      (λ b one. (let same : b ≡ k = subst (λ m. IsOneOf m b) is one in (omega (arith, ints, same, is_lo), omega (arith, ints, same, is_hi))))
+      (λ b both. (let from = both.0 in let to = both.1 in subst (λ m. IsOneOf m b) (sym is) (omega (arith, ints, from, to, is_lo, is_hi)))) step
 
-pub between_step : (n : Numbers) (lo hi : ℤ) (x : Term) (c : Con) (lists : List Tuples) (s : Span) (old new : Sets) (result : Result (Unit {0}) Fail) → n ≡ Between lo hi → c ≡ literal_of n x → IsReady old.vars lists c → ((b : ℤ) → lo ≤ℤ b → b ≤ℤ hi → IsIn s b) → ((b : ℤ) → IsIn s b → (lo ≤ℤ b) × (b ≤ℤ hi))
-    → IsStep (AllIn s x) old new result → IsStep (LeafClosed old.vars lists c) old new result
-between_step n lo hi x c lists s old new result is told ready within only step = span_step (Between lo hi) x c lists s old new result (told ∙ ap (λ m. literal_of m x) is) ready (λ b both. within b both.0 both.1) only step
+  pub between_step : (lo hi : ℤ) → n ≡ Between lo hi → s.lo ≡ lo → s.hi ≡ hi → IsStep (OutOf s x) (AllIn s x) old new result → IsStep (Unsupported (beside lists (literal_of n x))) (LeafClosed (vars_of old) lists (literal_of n x)) old new result
+  between_step lo hi is is_lo is_hi step = interval_step
+      (λ b one. (let both : (lo ≤ℤ b) × (b ≤ℤ hi) = subst (λ m. IsOneOf m b) is one in let from = both.0 in let to = both.1 in (omega (arith, ints, from, is_lo), omega (arith, ints, to, is_hi))))
+      (λ b both. (let from = both.0 in let to = both.1 in subst (λ m. IsOneOf m b) (sym is) (omega (arith, ints, from, is_lo), omega (arith, ints, to, is_hi)))) step
 
-pub not_step : (n : Numbers) (k : ℤ) (x : Term) (c : Con) (lists : List Tuples) (old new : Sets) (result : Result (Unit {0}) Fail) → n ≡ IsNot k → c ≡ literal_of n x → IsStep (EachAsked old.vars x (λ b. b ≢ k)) old new result → IsStep (LeafClosed old.vars lists c) old new result
-not_step n k x c lists old new result is told step = subst (λ d. IsStep (LeafClosed old.vars lists d) old new result) (sym (told ∙ ap (λ m. literal_of m x) is))
-    (as_step (EachAsked old.vars x (λ b. b ≢ k)) (LeafClosed old.vars lists (literal_of (IsNot k) x)) old new result (λ box lawful i closed. closed_literal (IsNot k) x lists old.vars box closed) (λ each. literal_closed (IsNot k) x lists old.vars old.sets each) step)
+module _ (n : Numbers) (x : Term) (lists : List Tuples) (old new : Context) (result : Result (Unit {0}) Fail) where
+  pub not_step : (k : ℤ) → n ≡ IsNot k → IsStep (ThatAt x k) (EachAsked (vars_of old) x (λ b. b ≢ k)) old new result → IsStep (Unsupported (beside lists (literal_of n x))) (LeafClosed (vars_of old) lists (literal_of n x)) old new result
+  not_step k is step =
+      as_step (λ box lawful i closed a asked. subst (λ m. IsOneOf m a) is (closed_literal n x lists (vars_of old) box closed a asked))
+      (λ each. literal_closed n x lists (vars_of old) (box_of old) (λ a asked. subst (λ m. IsOneOf m a) (sym is) (each a asked)))
+      (by_rule (λ box i u a has that. none_of_them n x lists box u a that.0 (λ one. (let other : a ≢ k = subst (λ m. IsOneOf m a) is one in other that.1))) step)

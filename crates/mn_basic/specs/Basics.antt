@@ -1,18 +1,24 @@
 -- The constraint that a `Basic` narrows.
-use Rattle.std.specs.Prelude.{List}
-use Rattle.mn_model.specs.declared.constraint.Con.{Con}
-use Rattle.mn_model.specs.declared.declaration.Tuples.{Tuples}
-use Rattle.mn_basic.specs.Pairs.{pair_of}
+use Rattle.std.specs.Prelude.{Bool, true, false}
+use Rattle.mn_prop.specs.Forwards.{checked}
+use Rattle.mn_prop.specs.Posts.{Posted}
+use Rattle.mn_basic.specs.Binaries.{differ_of, ineq_of}
+use Rattle.mn_basic.specs.Ties.{tied_of}
+use Rattle.mn_basic.specs.Unaries.{unary_of}
 use Rattle.mn_basic.specs.declared.basic.Basic.{Basic}
-use Rattle.mn_basic.specs.declared.basic.Basic.TheVariants.{Literal, Pair, Whole}
+use Rattle.mn_basic.specs.declared.basic.Basic.TheVariants.{Differ, Ineq, Tied, Unary, Forward}
 
-abbrev pub constraint_of : Basic → Con
-constraint_of (Literal l) = l.whole.con.now
-constraint_of (Pair p) = pair_of p.relation p.x p.y
-constraint_of (Whole w) = w.con.now
+abbrev pub posted_of : Basic → Posted
+posted_of (Differ d) = differ_of d
+posted_of (Ineq i) = ineq_of i
+posted_of (Tied t) = tied_of t
+posted_of (Unary u) = unary_of u
+posted_of (Forward f) = checked f
 
--- the tuple lists beside which it stands
-abbrev pub lists_of : Basic → List Tuples
-lists_of (Literal l) = l.whole.lists.now
-lists_of (Pair p) = p.lists.now
-lists_of (Whole w) = w.lists.now
+-- whether a pass leaves nothing for another one to do
+abbrev pub rests_of : Basic → Bool
+rests_of (Differ d) = true
+rests_of (Ineq i) = true
+rests_of (Tied t) = false
+rests_of (Unary u) = false
+rests_of (Forward f) = false

@@ -1,6 +1,6 @@
 pub mod Basics
-pub mod Literals
+pub mod Binaries
+pub mod Intervals
 pub mod Losses
-pub mod Narrowing
-pub mod Pairs
-pub mod Trials
+pub mod Ties
+pub mod Unaries

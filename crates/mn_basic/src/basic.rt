@@ -1,127 +1,141 @@
 //! What narrows one constraint.
-ghost use Rattle.std.specs.Prelude.{◌≡◌, IfOk};
-ghost use Rattle.mn_closure.specs.Closed.{LeafClosed};
-ghost use Rattle.mn_prop.specs.Losses.{Loses, Unsupported};
-ghost use Rattle.mn_prop.specs.Passes.{IsReady, IsStep};
-ghost use Rattle.mn_basic.specs.Basics.{constraint_of, lists_of};
-ghost use Rattle.mn_basic.specs.Literals.{literal_of};
+ghost use Rattle.std.specs.Prelude.{◌≡◌, IfOk, OnOk, true};
+ghost use Rattle.mn_prop.specs.Contexts.{box_of, vars_of};
+ghost use Rattle.mn_prop.specs.Losses.{Unsupported};
+ghost use Rattle.mn_prop.specs.Passes.{IsStep};
+ghost use Rattle.mn_prop.specs.Posts.{ClosedUnderLeaf, IsReadyToRun, beside};
+ghost use Rattle.mn_basic.specs.Basics.{posted_of, rests_of};
+ghost use Rattle.mn_basic.specs.Binaries.{differ_between, order_of};
+ghost use Rattle.mn_basic.specs.Ties.{tie_of};
+ghost use Rattle.mn_basic.specs.Unaries.{literal_of};
 
-use crate::literal::Literal;
+use crate::differ::Differ;
+use crate::ineq::{Ineq, Order};
 use crate::numbers::Numbers;
-use crate::pair::Pair;
-use crate::relation::{Relation, Tie};
-use crate::whole::Whole;
+use crate::tie::{Tie, Tied};
+use crate::unary::Unary;
 use mn_domains::Doms;
 use mn_model::{Con, Instance, Term};
-use mn_prop::{Ctx, Fail, Leaf, Make, Runner};
+use mn_prop::{Ctx, Fail, ForwardCheck, Make, Runner, Scoped};
 use std::alloc::{AllocError, Global};
 
 /// What narrows one constraint, of any form.
 #[derive(Drop)]
 pub enum Basic<'a> {
-    /// A constraint of one place.
-    Literal(Literal<'a>),
-    /// A relation of two places.
-    Pair(Pair<'a>),
-    /// Any other constraint, asked as a whole.
-    Whole(Whole<'a>),
-}
-
-// What narrows a constraint that lets these numbers stand at a place.
-fn literal<'a>(
-    alloc: Global,
-    inst: &'a Instance,
-    con: &'a Con,
-    numbers: Numbers<'a>,
-    x: Term,
-) -> Result<Basic<'a>, AllocError>
-    requires { con.now ≡ literal_of numbers x }
-    ensures con { IfOk result (λ b. constraint_of b ≡ con.now) }
-    ensures lists { IfOk result (λ b. lists_of b ≡ inst.now.tuples) }
-{
-    Ok(Basic::Literal(Literal::build(alloc, inst, con, numbers, x)?))
+    /// Two places that differ.
+    Differ(Differ<'a>),
+    /// Two places in order.
+    Ineq(Ineq<'a>),
+    /// Two places one of which tells the other.
+    Tied(Tied<'a>),
+    /// One place, by its numbers.
+    Unary(Unary<'a>),
+    /// Any other constraint, checked forward.
+    Forward(ForwardCheck<'a>),
 }
 
 impl<'a> Basic<'a> {
     /// What narrows the constraint, beside the tuple lists of the instance.
     pub fn build(alloc: Global, inst: &'a Instance, con: &'a Con) -> Result<Basic<'a>, AllocError>
-        ensures con { IfOk result (λ b. constraint_of b ≡ con.now) }
-        ensures lists { IfOk result (λ b. lists_of b ≡ inst.now.tuples) }
+        ensures { IfOk result (λ b. posted_of b ≡ beside inst.now.tuples con.now) }
     {
-        let lists = inst.tuples();
         match con {
-            Con::Eq(x, y) => Ok(Basic::Pair(Pair::new(Relation::Tied(Tie::Equal), *x, *y, lists))),
-            Con::Diseq(x, y) => Ok(Basic::Pair(Pair::new(Relation::Differ, *x, *y, lists))),
-            Con::Ineq(x, y, k) => Ok(Basic::Pair(Pair::new(Relation::AtMost(*k), *x, *y, lists))),
-            Con::Watchless(x, y) => Ok(Basic::Pair(Pair::new(Relation::Below, *x, *y, lists))),
-            Con::Minuseq(x, y) => Ok(Basic::Pair(Pair::new(
-                Relation::Tied(Tie::Opposite),
-                *x,
-                *y,
-                lists,
-            ))),
-            Con::Abs(x, y) => Ok(Basic::Pair(Pair::new(
-                Relation::Tied(Tie::Absolute),
-                *x,
-                *y,
-                lists,
-            ))),
-            Con::WLiteral(x, k) => literal(alloc, inst, con, Numbers::Is(*k), *x),
-            Con::WNotliteral(x, k) => literal(alloc, inst, con, Numbers::IsNot(*k), *x),
-            Con::WInset(x, ks) => literal(alloc, inst, con, Numbers::Among(ks), *x),
-            Con::WNotinset(x, ks) => literal(alloc, inst, con, Numbers::NotAmong(ks), *x),
-            Con::WInrange(x, lo, hi) => literal(alloc, inst, con, Numbers::Between(*lo, *hi), *x),
-            Con::WNotinrange(x, lo, hi) => literal(
-                alloc,
-                inst,
-                con,
-                Numbers::NotBetween(*lo, *hi),
-                *x,
-            ),
-            Con::WInintervalset(x, ends) => literal(alloc, inst, con, Numbers::Within(ends), *x),
-            _ => Ok(Basic::Whole(Whole::build(alloc, inst, con)?)),
+            Con::Eq(x, y) => Ok(tied(inst, Tie::Equal, *x, *y)),
+            Con::Minuseq(x, y) => Ok(tied(inst, Tie::Opposite, *x, *y)),
+            Con::Abs(x, y) => Ok(tied(inst, Tie::Absolute, *x, *y)),
+            Con::Diseq(x, y) => Ok(differ(inst, *x, *y)),
+            Con::Ineq(x, y, k) => Ok(ordered(inst, Order::AtMost(*k), *x, *y)),
+            Con::Watchless(x, y) => Ok(ordered(inst, Order::Below, *x, *y)),
+            Con::WLiteral(x, k) => Ok(unary(inst, Numbers::Is(*k), *x)),
+            Con::WNotliteral(x, k) => Ok(unary(inst, Numbers::IsNot(*k), *x)),
+            Con::WInset(x, ks) => Ok(unary(inst, Numbers::Among(ks), *x)),
+            Con::WNotinset(x, ks) => Ok(unary(inst, Numbers::NotAmong(ks), *x)),
+            Con::WInrange(x, lo, hi) => Ok(unary(inst, Numbers::Between(*lo, *hi), *x)),
+            Con::WNotinrange(x, lo, hi) => Ok(unary(inst, Numbers::NotBetween(*lo, *hi), *x)),
+            Con::WInintervalset(x, ends) => Ok(unary(inst, Numbers::Within(ends), *x)),
+            _ => Ok(Basic::Forward(ForwardCheck::build(alloc, inst, con)?)),
         }
     }
+}
+
+// What narrows each family.
+fn differ<'a>(inst: &'a Instance, x: Term, y: Term) -> Basic<'a>
+    ensures { posted_of result ≡ beside inst.now.tuples (differ_between x y) }
+{
+    Basic::Differ(Differ { x, y, inst })
+}
+
+fn ordered<'a>(inst: &'a Instance, order: Order, x: Term, y: Term) -> Basic<'a>
+    ensures { posted_of result ≡ beside inst.now.tuples (order_of order x y) }
+{
+    Basic::Ineq(Ineq { order, x, y, inst })
+}
+
+fn tied<'a>(inst: &'a Instance, tie: Tie, x: Term, y: Term) -> Basic<'a>
+    ensures { posted_of result ≡ beside inst.now.tuples (tie_of tie x y) }
+{
+    Basic::Tied(Tied { tie, x, y, inst })
+}
+
+fn unary<'a>(inst: &'a Instance, numbers: Numbers<'a>, x: Term) -> Basic<'a>
+    ensures { posted_of result ≡ beside inst.now.tuples (literal_of numbers.entry x) }
+{
+    Basic::Unary(Unary { numbers, x, inst })
 }
 
 impl Basic<'_> {
     // Takes values that aren't supported, or fails.
-    fn narrow(&self, c: &mut Ctx) -> Result<(), Fail>
-        requires { IsReady c.old.doms.vars (lists_of self.now) (constraint_of self.now) }
-        ensures step { IsStep (LeafClosed c.old.doms.vars (lists_of self.now) (constraint_of self.now)) c.old.doms c.new.doms result }
-        ensures loses { Loses (Unsupported (lists_of self.now) (constraint_of self.now)) c.old.doms.sets c.new.doms.sets }
+    fn filter(&self, c: &mut Ctx) -> Result<(), Fail>
+        requires { IsReadyToRun (vars_of c.old) (posted_of self.now) }
+        ensures step { IsStep (Unsupported (posted_of self.now)) (ClosedUnderLeaf (vars_of c.old) (posted_of self.now)) c.old c.new result }
+        ensures settled { OnOk result (rests_of self.now ≡ true → ClosedUnderLeaf (vars_of c.old) (posted_of self.now) (box_of c.new)) }
     {
         match self {
-            Basic::Literal(l) => l.narrow(c),
-            Basic::Pair(p) => p.narrow(c),
-            Basic::Whole(w) => w.narrow(c),
+            Basic::Differ(d) => d.filter(c),
+            Basic::Ineq(i) => i.filter(c),
+            Basic::Tied(t) => t.filter(c),
+            Basic::Unary(u) => u.filter(c),
+            Basic::Forward(f) => f.filter(c),
         }
     }
 }
 
-impl Runner for Basic<'_> {
-    ghost con = { constraint_of };
-
-    ghost lists = { lists_of };
+impl Scoped for Basic<'_> {
+    ghost posted = { posted_of };
 
     fn places(&self) -> usize {
         match self {
-            Basic::Literal(l) => Leaf::places(&l.whole),
-            Basic::Pair(p) => Leaf::places(p),
-            Basic::Whole(w) => Leaf::places(w),
+            Basic::Differ(d) => d.places(),
+            Basic::Ineq(i) => i.places(),
+            Basic::Tied(t) => t.places(),
+            Basic::Unary(u) => u.places(),
+            Basic::Forward(f) => f.places(),
         }
     }
 
     fn term(&self, i: usize) -> Term {
         match self {
-            Basic::Literal(l) => Leaf::term(&l.whole, i),
-            Basic::Pair(p) => Leaf::term(p, i),
-            Basic::Whole(w) => Leaf::term(w, i),
+            Basic::Differ(d) => d.term(i),
+            Basic::Ineq(o) => o.term(i),
+            Basic::Tied(t) => t.term(i),
+            Basic::Unary(u) => u.term(i),
+            Basic::Forward(f) => f.term(i),
+        }
+    }
+}
+
+impl Runner for Basic<'_> {
+    ghost rests = { rests_of };
+
+    fn settles(&self) -> bool {
+        match self {
+            Basic::Differ(_) | Basic::Ineq(_) => true,
+            Basic::Tied(_) | Basic::Unary(_) | Basic::Forward(_) => false,
         }
     }
 
     fn pass(&mut self, c: &mut Ctx) -> Result<(), Fail> {
-        self.narrow(c)
+        self.filter(c)
     }
 }
 

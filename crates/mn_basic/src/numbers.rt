@@ -1,10 +1,10 @@
 //! The numbers that a constraint of one place lets stand, and how far they reach.
-ghost use Rattle.std.specs.Prelude.{ℤ};
+ghost use Rattle.std.specs.Prelude.{◌↔◌, ◌≤ℤ◌, IsTrue, ℤ};
 ghost use Rattle.mn_model.specs.Domain.{Has};
 ghost use Rattle.mn_meaning.specs.Families.{InIntervals};
-ghost use Rattle.mn_basic.specs.Narrowing.{IsIn};
+ghost use Rattle.mn_basic.specs.Intervals.{IsIn};
 
-use crate::span::Span;
+use crate::interval::Interval;
 use mn_model::Ints;
 
 /// Numbers that a place may have.
@@ -26,33 +26,94 @@ pub enum Numbers<'a> {
     Within(&'a Ints),
 }
 
-// The part of the span that reaches from the least to the greatest number of the list that is in it.
-fn reach_of(ks: &Ints, own: Span) -> Span
+impl Numbers<'_> {
+    ghost use Rattle.mn_basic.specs.Unaries.{IsOneOf};
+
+    /// Whether `a` is one of them.
+    pub(crate) fn contains(&self, a: i64) -> bool
+        ensures { IsTrue result ↔ IsOneOf self.now a }
+    {
+        match self {
+            Numbers::Is(k) => a == *k,
+            Numbers::IsNot(k) => a != *k,
+            Numbers::Among(ks) => is_in(ks, a),
+            Numbers::NotAmong(ks) => !is_in(ks, a),
+            Numbers::Between(lo, hi) => is_between(a, *lo, *hi),
+            Numbers::NotBetween(lo, hi) => !is_between(a, *lo, *hi),
+            Numbers::Within(ends) => in_intervals(ends, a),
+        }
+    }
+
+    /// The part of the interval that reaches from the least to the greatest of them that is in it, or more.
+    pub(crate) fn reach(&self, own: Interval) -> Interval
+        ensures { (b : ℤ) → IsOneOf self.now b → IsIn own b → IsIn result b }
+    {
+        match self {
+            Numbers::Is(_) => own,
+            Numbers::IsNot(_) => own,
+            Numbers::Among(ks) => reach_of(ks, own),
+            Numbers::NotAmong(ks) => lowered_past(ks, raised_past(ks, own)),
+            Numbers::Between(_, _) => own,
+            Numbers::NotBetween(lo, hi) => own.without(*lo, *hi),
+            Numbers::Within(ends) => reach_across(ends, own),
+        }
+    }
+}
+
+fn is_in(ks: &Ints, a: i64) -> bool
+    ensures { IsTrue result ↔ Has ks.now a }
+{
+    ks.as_slice().contains(&a)
+}
+
+fn is_between(a: i64, lo: i64, hi: i64) -> bool
+    ensures { IsTrue result ↔ ((lo ≤ℤ a) × (a ≤ℤ hi)) }
+{
+    lo <= a && a <= hi
+}
+
+fn in_intervals(ends: &Ints, a: i64) -> bool
+    ensures { IsTrue result ↔ InIntervals ends.now a }
+{
+    let mut rest = ends.as_slice();
+    while rest.len() >= 2 {
+        let (first, others) = rest.split_at(2);
+        let (lo, hi) = (first[0], first[1]);
+        if is_between(a, lo, hi) {
+            return true;
+        }
+        rest = others;
+    }
+    false
+}
+
+// The part of the interval that reaches from the least to the greatest number of the list that is in it.
+fn reach_of(ks: &Ints, own: Interval) -> Interval
     ensures { (b : ℤ) → Has ks.now b → IsIn own b → IsIn result b }
 {
-    let mut span = Span::empty();
+    let mut span = Interval::empty();
     for k in ks.as_slice() {
-        span = span.with(Span::of(*k, *k), own);
+        span = span.with(Interval::of(*k, *k), own);
     }
     span
 }
 
 // The same of intervals.
-fn reach_across(ends: &Ints, own: Span) -> Span
+fn reach_across(ends: &Ints, own: Interval) -> Interval
     ensures { (b : ℤ) → InIntervals ends.now b → IsIn own b → IsIn result b }
 {
-    let mut span = Span::empty();
+    let mut span = Interval::empty();
     let mut rest = ends.as_slice();
     while rest.len() >= 2 {
         let (first, others) = rest.split_at(2);
-        span = span.with(Span::of(first[0], first[1]), own);
+        span = span.with(Interval::of(first[0], first[1]), own);
         rest = others;
     }
     span
 }
 
 // Without the numbers of the list at its ends: at the lower one in the list's order, and at the upper one in the other.
-fn raised_past(ks: &Ints, own: Span) -> Span
+fn raised_past(ks: &Ints, own: Interval) -> Interval
     ensures { (b : ℤ) → (Has ks.now b → ⊥) → IsIn own b → IsIn result b }
 {
     let mut span = own;
@@ -62,7 +123,7 @@ fn raised_past(ks: &Ints, own: Span) -> Span
     span
 }
 
-fn lowered_past(ks: &Ints, own: Span) -> Span
+fn lowered_past(ks: &Ints, own: Interval) -> Interval
     ensures { (b : ℤ) → (Has ks.now b → ⊥) → IsIn own b → IsIn result b }
 {
     let mut span = own;
@@ -70,23 +131,4 @@ fn lowered_past(ks: &Ints, own: Span) -> Span
         span = span.without(*k, *k);
     }
     span
-}
-
-impl Numbers<'_> {
-    ghost use Rattle.mn_basic.specs.Literals.{IsOneOf};
-
-    /// The part of the span that reaches from the least to the greatest of them that is in it, or more.
-    pub(crate) fn reach(&self, own: Span) -> Span
-        ensures { (b : ℤ) → IsOneOf self.now b → IsIn own b → IsIn result b }
-    {
-        match self {
-            Numbers::Is(k) => Span::of(*k, *k),
-            Numbers::IsNot(k) => own.without(*k, *k),
-            Numbers::Among(ks) => reach_of(ks, own),
-            Numbers::NotAmong(ks) => lowered_past(ks, raised_past(ks, own)),
-            Numbers::Between(lo, hi) => Span::of(*lo, *hi),
-            Numbers::NotBetween(lo, hi) => own.without(*lo, *hi),
-            Numbers::Within(ends) => reach_across(ends, own),
-        }
-    }
 }
