@@ -39,18 +39,18 @@ print_seen All = starts.all
 print_seen Nothing = starts.none
 print_seen Listed = starts.listed
 
--- what is said so far, behind an objective that breaks this at its end, and where none does
+-- what is said so far, after an objective that breaks this at its end, and where none does
 abbrev pub asking_behind : Progress → Option Unfit → Asking
 asking_behind c behind = record { problem = c.problem; asked = c.asked; behind = behind }
 
 abbrev pub asking_of : Progress → Asking
 asking_of c = asking_behind c None
 
--- the reference of an objective, by its variable and by what the token behind it breaks
+-- the reference of an objective, by its variable and by what the token after it breaks
 unfoldable pub goal_at : Problem → Reader (VarId × Option Unfit)
 goal_at p = then_read (ref_at p (one_place p false)) (λ f. ret (first_of f.vars, f.behind))
 
--- The reader answers what is said and asked and the head behind the section, with which it goes on; the cursor stands
+-- The reader answers what is said and asked and the head after the section, with which it goes on; the cursor stands
 -- before that head.
 abbrev pub IsAsked : Progress → Answer (Asking × Head) → Type 0
 IsAsked new answer =

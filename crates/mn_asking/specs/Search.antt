@@ -43,7 +43,7 @@ item_token maximises = word (codes "MAXIMISING")
 item_token minimises = word (codes "MINIMISING")
 item_token prints = word (codes "PRINT")
 
--- At an item's word: it stands for the first time, a VALORDER behind VARORDER, and there is one objective.
+-- At an item's word: it stands for the first time, a VALORDER after VARORDER, and there is one objective.
 abbrev pub may_stand : Asked → ItemWord → Option Kind
 may_stand a says_order = when a.order kinds.Again
 may_stand a says_values = when (a.values || not a.order) kinds.Shape
@@ -55,11 +55,11 @@ may_stand a prints = when a.print kinds.Shape
 abbrev pub at_word : Asking → ItemWord → Option Kind
 at_word s w = lesser (as_kind s.behind) (may_stand s.asked w)
 
--- VARORDER: the variables of its references, one behind another, as many as the limit allows
+-- VARORDER: the variables of its references, one after another, as many as the limit allows
 abbrev pub order_aim : List VarId → Aim
 order_aim vars = order_aim_behind (length vars)
 
--- at the `,` behind these variables: the limit leaves one more
+-- at the `,` after these variables: the limit leaves one more
 abbrev pub at_full : List VarId → Option Kind
 at_full vars = when (leb PLACES (length vars)) (kinds.Limit limits.Vector)
 
@@ -115,7 +115,7 @@ all_ways down d = down ++ d ∷ []
 abbrev pub no_ways : ℕ → Option Kind
 no_ways wanted = when (ltb 0 wanted) kinds.Shape
 
--- PRINT: its rows; a bare matrix without brackets ends at the token behind it
+-- PRINT: its rows; a bare matrix without brackets ends at the token after it
 abbrev pub rows_ends : Ends (List (List Term)) Rows
 rows_ends = record {
   next = λ rows r. rows ++ r.rows;
@@ -165,7 +165,7 @@ spell_item (val_order ways) = item_token says_values ∷ mark OpenSquare ∷ spe
 spell_item (objective maximise r) = item_token (goal_word maximise) ∷ spell_ref r
 spell_item (print printing) = item_token prints ∷ spell_printing printing
 
--- what an item breaks behind its word
+-- what an item breaks after its word
 abbrev pub breaks_printing : Problem → Printing → List Break
 breaks_printing p print_all = []
 breaks_printing p print_none = []
@@ -187,7 +187,7 @@ word_of (print printing) = prints
 abbrev pub breaks_item : Asking → Item → List Break
 breaks_item s i = on (at_word s (word_of i)) ++ behind 1 (breaks_behind s.problem i)
 
--- what is said behind each
+-- what is said after each
 abbrev pub with_order : Asking → List VarId → Asking
 with_order s vars = record s {
   problem = record (s.problem) { order = record { vars = vars; down = replicate (length vars) false } };
@@ -232,12 +232,12 @@ value_item s (val_order ways) = with_values s (value_maybe (values_judge (length
 value_item s (objective maximise r) = with_goal s maximise (value_ref s.problem (one_place s.problem false) r)
 value_item s (print printing) = with_print s (value_printing s.problem printing)
 
--- the section behind its head: its items, and the head of the next
+-- the section after its head: its items, and the head of the next
 abbrev pub spell_section : List Item → Head → List Terminal
 spell_section [] h = head_token h ∷ []
 spell_section (i ∷ items) h = spell_item i ++ spell_section items h
 
--- what it breaks, and what is said behind it
+-- what it breaks, and what is said after it
 abbrev pub breaks_section : Asking → List Item → List Break
 breaks_section s [] = on (as_kind s.behind)
 breaks_section s (i ∷ items) = breaks_item s i ++ behind (length (spell_item i)) (breaks_section (value_item s i) items)

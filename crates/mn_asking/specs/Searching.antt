@@ -21,11 +21,11 @@ use Rattle.mn_references.specs.References.{one_place}
 use Rattle.mn_asking.specs.Search.{Asking, ItemWord, says_order, says_values, maximises, minimises, prints, item_token, at_word, order_aim, order_ends, all_vars, way_token, values_ends, at_way, all_ways, no_ways, rows_ends, all_rows, with_order, with_values, with_goal, with_print}
 use Rattle.mn_references.specs.Referring.{ref_at, row_at}
 
--- references, behind `[`
+-- references, after `[`
 unfoldable pub order_at : Problem → Reader (List VarId)
 order_at p = maybe_at CloseSquare order_ends None [] all_vars (λ vars. ref_at p (order_aim vars)) []
 
--- behind VARORDER: STATIC may stand before the `[`
+-- after VARORDER: STATIC may stand before the `[`
 abbrev pub static_token : Bool → Terminal
 static_token true = word (codes "STATIC")
 static_token false = mark OpenSquare
@@ -43,7 +43,7 @@ behind_static p false = order_at p
 unfoldable pub var_order_at : Problem → Reader (List VarId)
 var_order_at p = then_read (one_of Fixed static_token both no_break) (behind_static p)
 
--- behind VALORDER
+-- after VALORDER
 unfoldable pub way_at : ℕ → List Bool → Reader Bool
 way_at wanted down = one_of Fixed way_token both (at_way wanted down)
 
@@ -53,7 +53,7 @@ ways_at wanted = maybe_at CloseSquare (values_ends wanted) (no_ways wanted) [] a
 unfoldable pub val_order_at : ℕ → Reader (List Bool)
 val_order_at wanted = then_read (mark_at MarksOnly OpenSquare None) (λ u. ways_at wanted)
 
--- behind PRINT
+-- after PRINT
 pub data PrintStart : Type 0 where
   all none listed : PrintStart
 
@@ -101,6 +101,6 @@ item_first s = one Fixed which_item (at_item s)
 abbrev pub ended : Asking → Head → Asking × Head
 ended s h = (s, h)
 
--- the section behind its head, up to the head of the next
+-- the section after its head, up to the head of the next
 unfoldable pub search_at : Asking → Reader (Asking × Head)
 search_at s = body_at item_first item_rest ended s

@@ -42,7 +42,7 @@ fn shape_where(broken: bool) -> Option<Kind>
     if broken { Some(Kind::Shape) } else { None }
 }
 
-// Reads `a` or `d` behind so many others. Answers whether it is `d`.
+// Reads `a` or `d` after so many others. Answers whether it is `d`.
 #[tactic(auto, using(mn_cursor::proofs::Looking::unseen_stops, mn_cursor::proofs::Looking::seen_stops, mn_cursor::proofs::Looking::seen_reads), unfolding(crate::specs::Searching::way_at, mn_grammar::specs::Reading::one_of))]
 fn way(scan: &mut Scan, wanted: usize, down: &Flags) -> Result<bool, Stop>
     ensures moves { Moves scan.old scan.new }
@@ -53,7 +53,7 @@ fn way(scan: &mut Scan, wanted: usize, down: &Flags) -> Result<bool, Stop>
     Ok(way)
 }
 
-// Reads one of the directions and the mark behind it. Answers whether the list goes on.
+// Reads one of the directions and the mark after it. Answers whether the list goes on.
 fn turn(scan: &mut Scan, wanted: usize, down: &mut Flags) -> Result<bool, Stop>
     ensures moves { Moves scan.old scan.new }
     ensures gives { Gives (λ more. (turn_of down.new more, rest scan.new)) result (turn_at CloseSquare (values_ends wanted) all_ways (way_at wanted) down.old (rest scan.old)) }
@@ -82,7 +82,7 @@ fn directions(scan: &mut Scan, wanted: usize) -> Result<Flags, Stop>
     }
 }
 
-// Reads the directions behind the `[`.
+// Reads the directions after the `[`.
 #[tactic(auto, using(mn_references::proofs::ListTurns::shut_stops, mn_references::proofs::ListTurns::shut_reads, mn_references::proofs::ListTurns::opened), unfolding(crate::specs::Searching::ways_at))]
 fn ways(scan: &mut Scan, wanted: usize) -> Result<Flags, Stop>
     ensures moves { Moves scan.old scan.new }
@@ -95,7 +95,7 @@ fn ways(scan: &mut Scan, wanted: usize) -> Result<Flags, Stop>
     directions(scan, wanted)
 }
 
-/// Reads what stands behind VALORDER: a direction for each of so many variables.
+/// Reads what stands after VALORDER: a direction for each of so many variables.
 pub fn val_order(scan: &mut Scan, wanted: usize) -> Result<Flags, Stop>
     ensures moves { Moves scan.old scan.new }
     ensures gives { Gives (λ down. (down, rest scan.new)) result (val_order_at wanted (rest scan.old)) }

@@ -1,7 +1,7 @@
 //! The section of a text that says how to search: the order of the variables and of their values, an objective, and what
 //! is printed.
 //!
-//! `search` reads the items behind the section's head, up to the next head, and says what they ask for in the instance of
+//! `search` reads the items after the section's head, up to the next head, and says what they ask for in the instance of
 //! a `Cursor`. It accepts exactly the items of the language, and refuses everything else at the right token and with the
 //! right kind: its contract says that it answers what a reader of `specs/` answers, which is lawful for the language's
 //! trees.

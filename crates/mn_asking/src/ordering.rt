@@ -22,7 +22,7 @@ use mn_model::{PLACES, VarId, VarIds};
 use mn_references::{Aimed, Reference, Scan, Unfit, kind_of, lesser, reference_at};
 use std::alloc::AllocError;
 
-// Whether STATIC stands behind VARORDER, and not `[`.
+// Whether STATIC stands after VARORDER, and not `[`.
 fn sees_static(scan: &Scan) -> Result<bool, Stop>
     ensures sees { Sees Fixed (which_of static_token both) (λ b. b) (rest scan.now) result }
     ensures there { IfOk result (λ _. 0 < scan.now.left) }
@@ -62,7 +62,7 @@ fn push_all(vars: &mut VarIds, more: &[VarId]) -> Result<(), AllocError>
     Ok(())
 }
 
-// Adds the variables of a reference. Answers what the token behind it breaks, where that is its end.
+// Adds the variables of a reference. Answers what the token after it breaks, where that is its end.
 fn push_reference(vars: &mut VarIds, reference: Reference) -> Result<Option<Unfit>, AllocError>
     ensures added { OnOk result (vars.new ≡ vars.old ++ reference.entry.vars) }
     ensures behind { IfOk result (λ b. b ≡ reference.entry.behind) }
@@ -71,7 +71,7 @@ fn push_reference(vars: &mut VarIds, reference: Reference) -> Result<Option<Unfi
     Ok(reference.behind)
 }
 
-// What the `,` behind these variables breaks.
+// What the `,` after these variables breaks.
 fn at_full(vars: &VarIds) -> Option<Kind>
     ensures { result ≡ at_full vars.now }
 {
@@ -82,7 +82,7 @@ fn at_full(vars: &VarIds) -> Option<Kind>
     }
 }
 
-// Reads a reference of VARORDER and the mark behind it. Answers whether the list goes on.
+// Reads a reference of VARORDER and the mark after it. Answers whether the list goes on.
 fn turn(scan: &mut Scan, vars: &mut VarIds) -> Result<bool, Stop>
     ensures moves { Moves scan.old scan.new }
     ensures gives { Gives (λ more. (turn_of vars.new more, rest scan.new)) result (turn_at CloseSquare order_ends all_vars (λ before. ref_at scan.old.problem (order_aim before)) vars.old (rest scan.old)) }
@@ -107,7 +107,7 @@ fn references(scan: &mut Scan) -> Result<VarIds, Stop>
     }
 }
 
-// Reads the references of VARORDER behind the `[`.
+// Reads the references of VARORDER after the `[`.
 #[tactic(auto, using(mn_references::proofs::ListTurns::shut_stops, mn_references::proofs::ListTurns::shut_reads, mn_references::proofs::ListTurns::opened), unfolding(crate::specs::Searching::order_at))]
 fn order(scan: &mut Scan) -> Result<VarIds, Stop>
     ensures moves { Moves scan.old scan.new }
@@ -120,7 +120,7 @@ fn order(scan: &mut Scan) -> Result<VarIds, Stop>
     references(scan)
 }
 
-// Reads what stands behind STATIC, or behind the `[` where there is no STATIC.
+// Reads what stands after STATIC, or after the `[` where there is no STATIC.
 fn behind_static(scan: &mut Scan, is_static: bool) -> Result<VarIds, Stop>
     ensures moves { Moves scan.old scan.new }
     ensures gives { Gives (λ vars. (vars, rest scan.new)) result (behind_static scan.old.problem is_static (rest scan.old)) }
@@ -132,7 +132,7 @@ fn behind_static(scan: &mut Scan, is_static: bool) -> Result<VarIds, Stop>
     order(scan)
 }
 
-/// Reads what stands behind VARORDER.
+/// Reads what stands after VARORDER.
 pub fn var_order(scan: &mut Scan) -> Result<VarIds, Stop>
     ensures moves { Moves scan.old scan.new }
     ensures gives { Gives (λ vars. (vars, rest scan.new)) result (var_order_at scan.old.problem (rest scan.old)) }

@@ -20,7 +20,7 @@ use mn_model::{Print, TermRows, Terms};
 use mn_references::{Rows, Scan, Unfit, kind_of, row};
 use std::alloc::AllocError;
 
-/// What stands behind PRINT.
+/// What stands after PRINT.
 #[derive(Clone, Copy, Debug)]
 pub enum PrintStart {
     All,
@@ -29,7 +29,7 @@ pub enum PrintStart {
     Listed,
 }
 
-// What stands behind PRINT, at the place.
+// What stands after PRINT, at the place.
 fn sees_print(scan: &Scan) -> Result<PrintStart, Stop>
     ensures sees { Sees Fixed (which_of print_token print_starts) print_seen (rest scan.now) result }
     ensures there { IfOk result (λ _. 0 < scan.now.left) }
@@ -49,7 +49,7 @@ fn sees_print(scan: &Scan) -> Result<PrintStart, Stop>
     Err(scan.unwanted(Site::Fixed))
 }
 
-// Reads what stands behind PRINT.
+// Reads what stands after PRINT.
 #[tactic(auto, using(mn_cursor::proofs::Looking::unseen_stops, mn_cursor::proofs::Looking::seen_stops, mn_cursor::proofs::Looking::seen_reads), unfolding(mn_grammar::specs::Reading::one_of))]
 fn print_start(scan: &mut Scan) -> Result<PrintStart, Stop>
     ensures moves { Moves scan.old scan.new }
@@ -60,7 +60,7 @@ fn print_start(scan: &mut Scan) -> Result<PrintStart, Stop>
     Ok(start)
 }
 
-// Adds rows at the end. Answers what the token behind them breaks, where that is their end.
+// Adds rows at the end. Answers what the token after them breaks, where that is their end.
 fn push_rows(rows: &mut Vec<Terms>, read: Rows) -> Result<Option<Unfit>, AllocError>
     ensures added { OnOk result (rows.new.items ≡ rows.old.items ++ read.rows) }
     ensures behind { IfOk result (λ b. b ≡ read.behind) }
@@ -71,7 +71,7 @@ fn push_rows(rows: &mut Vec<Terms>, read: Rows) -> Result<Option<Unfit>, AllocEr
     Ok(behind)
 }
 
-// Reads a row and the mark behind it. Answers whether the list goes on.
+// Reads a row and the mark after it. Answers whether the list goes on.
 fn turn(scan: &mut Scan, rows: &mut Vec<Terms>) -> Result<bool, Stop>
     ensures moves { Moves scan.old scan.new }
     ensures gives { Gives (λ more. (turn_of rows.new.items more, rest scan.new)) result (turn_at CloseSquare rows_ends all_rows (λ _. row_at scan.old.problem) rows.old.items (rest scan.old)) }
@@ -95,7 +95,7 @@ fn some_rows(scan: &mut Scan) -> Result<TermRows, Stop>
     }
 }
 
-// Reads the rows behind the `[`.
+// Reads the rows after the `[`.
 #[tactic(auto, using(mn_references::proofs::ListTurns::shut_stops, mn_references::proofs::ListTurns::shut_reads, mn_references::proofs::ListTurns::opened), unfolding(crate::specs::Searching::rows_at))]
 fn rows(scan: &mut Scan) -> Result<TermRows, Stop>
     ensures moves { Moves scan.old scan.new }
@@ -108,7 +108,7 @@ fn rows(scan: &mut Scan) -> Result<TermRows, Stop>
     some_rows(scan)
 }
 
-/// Reads what stands behind PRINT.
+/// Reads what stands after PRINT.
 pub fn print(scan: &mut Scan) -> Result<Print, Stop>
     ensures moves { Moves scan.old scan.new }
     ensures gives { Gives (λ what. (what, rest scan.new)) result (print_at scan.old.problem (rest scan.old)) }

@@ -169,7 +169,7 @@ fn say_print(c: &mut Cursor, left: usize, print: Print)
     });
 }
 
-// Reads what stands behind VARORDER.
+// Reads what stands after VARORDER.
 fn order_item(c: &mut Cursor) -> Result<(), Stop>
     ensures same { SameText c.old c.new }
     ensures ok { OnOk result (item_rest (asking_of c.old) says_order (rest c.old) ≡ Ok (asking_of c.new, rest c.new)) }
@@ -184,7 +184,7 @@ fn order_item(c: &mut Cursor) -> Result<(), Stop>
     Ok(())
 }
 
-// Reads what stands behind VALORDER.
+// Reads what stands after VALORDER.
 fn values_item(c: &mut Cursor) -> Result<(), Stop>
     ensures same { SameText c.old c.new }
     ensures ok { OnOk result (item_rest (asking_of c.old) says_values (rest c.old) ≡ Ok (asking_of c.new, rest c.new)) }
@@ -200,7 +200,7 @@ fn values_item(c: &mut Cursor) -> Result<(), Stop>
     Ok(())
 }
 
-// Reads the reference of an objective. Answers its variable, and what the token behind it breaks.
+// Reads the reference of an objective. Answers its variable, and what the token after it breaks.
 fn goal_reference(scan: &mut Scan) -> Result<(VarId, Option<Unfit>), Stop>
     requires { IsLawful scan.old.problem }
     ensures moves { Moves scan.old scan.new }
@@ -211,7 +211,7 @@ fn goal_reference(scan: &mut Scan) -> Result<(VarId, Option<Unfit>), Stop>
     Ok((*reference.vars.get(0), reference.behind))
 }
 
-// Reads what stands behind MAXIMISING or MINIMISING. Answers what the token behind it breaks, where that is its end.
+// Reads what stands after MAXIMISING or MINIMISING. Answers what the token after it breaks, where that is its end.
 fn goal_item(c: &mut Cursor, maximise: bool) -> Result<Option<Unfit>, Stop>
     ensures same { SameText c.old c.new }
     ensures ok { IfOk result (λ b. item_rest (asking_of c.old) (goal_word maximise) (rest c.old) ≡ Ok (asking_behind c.new b, rest c.new)) }
@@ -225,7 +225,7 @@ fn goal_item(c: &mut Cursor, maximise: bool) -> Result<Option<Unfit>, Stop>
     Ok(behind)
 }
 
-// Reads what stands behind PRINT.
+// Reads what stands after PRINT.
 fn print_item(c: &mut Cursor) -> Result<(), Stop>
     ensures same { SameText c.old c.new }
     ensures ok { OnOk result (item_rest (asking_of c.old) prints (rest c.old) ≡ Ok (asking_of c.new, rest c.new)) }
@@ -240,7 +240,7 @@ fn print_item(c: &mut Cursor) -> Result<(), Stop>
     Ok(())
 }
 
-// Reads an item behind its word. Answers what the token behind it breaks, where that is its end.
+// Reads an item after its word. Answers what the token after it breaks, where that is its end.
 fn item(c: &mut Cursor, word: ItemWord) -> Result<Option<Unfit>, Stop>
     ensures same { SameText c.old c.new }
     ensures ok { IfOk result (λ b. item_rest (asking_of c.old) (word_seen word) (rest c.old) ≡ Ok (asking_behind c.new b, rest c.new)) }

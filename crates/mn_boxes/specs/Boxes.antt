@@ -3,6 +3,7 @@ use Rattle.std.specs.Prelude.{ℕ, ◌+◌, ℤ, false, List, [], ◌∷◌, len
 use Rattle.std.specs.List.{AllZip}
 use Rattle.mn_model.specs.Domain.{Has}
 use Rattle.mn_model.specs.Problem.{variables_of}
+pub use Rattle.mn_model.specs.Sets.{set_of}
 use Rattle.mn_model.specs.declared.declaration.Decl.{Decl}
 use Rattle.mn_boxes.specs.Sets.{Variable, IsSetOf, variable_of}
 
@@ -13,10 +14,6 @@ declared_variables decls = map variable_of (variables_of decls)
 -- what is declared of a variable. Nothing is, of a number that no variable has
 abbrev pub variable_at : List Variable → ℕ → Variable
 variable_at vars v = slice_index_or vars v (record { declared = []; bounded = false })
-
--- the set of a variable
-abbrev pub set_of : List (List ℤ) → ℕ → List ℤ
-set_of box v = slice_index_or box v []
 
 -- one set for each variable
 abbrev pub IsBox : List Variable → List (List ℤ) → Type 0

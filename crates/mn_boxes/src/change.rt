@@ -1,3 +1,4 @@
+//! What a change of a set tells.
 /// What a change of a variable's set moved.
 #[derive(Clone, Copy, Debug, PartialEq, Eq)]
 pub struct Moved {

@@ -1,3 +1,4 @@
+//! The two sorts of variables: those whose values go one by one, and those whose values go at the ends alone.
 ghost use Rattle.std.specs.Prelude.{◌≡◌};
 ghost use Rattle.mn_boxes.specs.Sets.{is_bounded};
 

@@ -2,8 +2,9 @@
 //!
 //! A set is the ascending list of the values that a variable has left, a box is one set for each variable, and an event
 //! is a way in which a set may have changed. The definitions are in `specs/`, and the crates above cite them: `IsSetOf`,
-//! `IsBox`, `Inside`, `PlaceHas`, `Fires` and `IsMoved`. The functions are laws of these definitions and do nothing, but for
-//! `is_bounded`, which tells the two sorts of variables apart.
+//! `IsBox`, `Inside`, `PlaceHas`, `Fires` and `IsMoved`. Most functions are laws of these definitions and do nothing.
+//! `is_bounded` tells the two sorts of variables apart, `bits` has rows of bits in words, and `ValueSet` is a set of values by
+//! words, the scratch in which propagators mark values.
 //!
 //! The crate stands on `mn_model`, whose declarations say which values and which kind a variable has.
 #![tactic(auto)]

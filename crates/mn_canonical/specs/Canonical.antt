@@ -8,7 +8,7 @@ use Rattle.mn_canonical.specs.Declarations.{declaration_text, alias_text}
 use Rattle.mn_canonical.specs.Search.{search_text}
 use Rattle.mn_canonical.specs.Tables.{tuple_list_text}
 
--- the sections, each behind its head
+-- the sections, each after its head
 abbrev pub variables_section : Problem → List ℕ
 variables_section p = codes "**VARIABLES**\n" ++ flat_map declaration_text p.decls ++ flat_map (alias_text p) p.aliases
 

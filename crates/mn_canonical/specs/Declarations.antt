@@ -30,7 +30,7 @@ ends_text values = codes " {" ++ end_text (slice_get values 0) ++ codes ".." ++ 
 abbrev pub values_text : List ℤ → List ℕ
 values_text values = codes " " ++ braced (map signed_decimal values)
 
--- what stands behind a name that is declared with a kind
+-- what stands after a name that is declared with a kind
 abbrev pub domain_text : Kind → List ℤ → List ℕ
 domain_text Binary values = []
 domain_text Bounded values = ends_text values

@@ -10,7 +10,7 @@ use Rattle.mn_model.specs.declared.variable.VarId.{VarId}
 use Rattle.mn_sections.specs.Matrices.{indices_of}
 use Rattle.mn_canonical.specs.Lists.{bracketed}
 
--- what stands behind a name: dimensions or indices, if there are any
+-- what stands after a name: dimensions or indices, if there are any
 abbrev pub subscript_text : List ℕ → List ℕ
 subscript_text [] = []
 subscript_text (i ∷ others) = bracketed (map decimal (i ∷ others))

@@ -13,7 +13,7 @@ use Rattle.mn_constraints.specs.declared.arguments.Argued.{Argued}
 use Rattle.mn_constraints.specs.declared.leaves.Row.{Row}
 use Rattle.mn_constraints.specs.declared.leaves.Row.TheVariants.{Empty, One, Two, Three}
 
--- a value with what the token behind it breaks
+-- a value with what the token after it breaks
 abbrev pub with_behind : Value → Option Unfit → Value
 with_behind (of_terms terms broken) behind = of_terms terms behind
 with_behind (of_numbers zs) behind = of_numbers zs
@@ -29,6 +29,6 @@ row_seen (One a) = value_seen a ∷ []
 row_seen (Two a b) = value_seen a ∷ value_seen b ∷ []
 row_seen (Three a b c) = value_seen a ∷ value_seen b ∷ value_seen c ∷ []
 
--- an argument behind others, and the mark behind it
+-- an argument after others, and the mark after it
 unfoldable pub argument_then_at : Problem → ℕ → Argument → List Value → Mark → Reader Value
 argument_then_at p used k vs m = then_read (argument_at p used k vs) (λ v. then_read (mark_at MarksOnly m (behind_value v)) (λ u. ret v))

@@ -22,18 +22,18 @@ use Rattle.mn_model.specs.declared.limits.TheConstants.{NESTING}
 unfoldable pub named_form : Terminal → Option Form
 named_form t = form_of t
 
--- a child behind others
+-- a child after others
 abbrev pub child_at : Problem → ℕ → ℕ → List Con → Reader Con
 child_at p d n cs = constraint_at p d (inside (cells_behind n cs))
 
--- children behind others, and all of them
+-- children after others, and all of them
 unfoldable pub children_from : Problem → ℕ → ℕ → List Con → Reader (List Con)
 children_from p d n cs = items_at CloseCurly child_ends with_child (child_at p d n) cs
 
 unfoldable pub children_behind : Problem → ℕ → ℕ → Reader (List Con)
 children_behind p d n = maybe_at CloseCurly child_ends None [] with_child (child_at p d n) []
 
--- the 0/1 term behind a constraint, between its marks
+-- the 0/1 term after a constraint, between its marks
 abbrev pub closed_term : Placed → Reader Term
 closed_term v = then_read (mark_at MarksOnly CloseRound (as_kind v.behind)) (λ u. ret (term_of v.terms))
 

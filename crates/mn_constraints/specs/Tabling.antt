@@ -21,7 +21,7 @@ abbrev pub IsStartName : Start → Type 0
 IsStartName (start.Name bytes) = IsName bytes.now
 IsStartName start.Open = Unit {0}
 
--- tuples behind the cells of others, and all of them
+-- tuples after the cells of others, and all of them
 unfoldable pub tuples_from : ℕ → ℕ → List ℤ → Reader (List ℤ)
 tuples_from used n cells = items_at CloseCurly tuple_ends with_tuple (tuple_at used n) cells
 

@@ -21,7 +21,7 @@ use mn_model::{Ints, NoMemory, PLACES};
 use mn_references::{Bounds, Listed, Scan, Unfit, kind_of, term, vector};
 use std::alloc::Global;
 
-/// What an argument stands for, and what the token behind it breaks.
+/// What an argument stands for, and what the token after it breaks.
 #[derive(Debug, Drop)]
 pub struct Argued {
     pub value: Value,
@@ -29,7 +29,7 @@ pub struct Argued {
 }
 
 impl Argued {
-    /// What the mark behind it breaks.
+    /// What the mark after it breaks.
     fn kind(&self) -> Option<Kind>
         ensures { result ≡ behind_value (argued_seen self.now) }
     {
@@ -167,7 +167,7 @@ fn argument(scan: &mut Scan, used: u64, argument: Argument, length: u32) -> Resu
     }
 }
 
-/// Reads an argument and the mark behind it, where the first argument has this length.
+/// Reads an argument and the mark after it, where the first argument has this length.
 pub fn argument_then(
     scan: &mut Scan,
     used: u64,

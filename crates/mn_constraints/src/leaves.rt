@@ -80,7 +80,7 @@ impl Row {
     }
 }
 
-/// Reads the arguments of a form, and the `)` behind them.
+/// Reads the arguments of a form, and the `)` after them.
 fn all_arguments(scan: &mut Scan, used: u64, takes: &[Argument]) -> Result<Row, Stop>
     requires { length takes.now ≤ 3 }
     ensures moves { Moves scan.old scan.new }
@@ -103,7 +103,7 @@ fn all_arguments(scan: &mut Scan, used: u64, takes: &[Argument]) -> Result<Row, 
     Ok(row.with(argument_then(scan, used, argument, length, Mark::CloseRound)?))
 }
 
-/// Reads what stands behind the name of a form without others inside. So many cells are used before it.
+/// Reads what stands after the name of a form without others inside. So many cells are used before it.
 pub fn leaf(scan: &mut Scan, used: u64, leaf: Leaf) -> Result<Con, Stop>
     ensures moves { Moves scan.old scan.new }
     ensures gives { Gives (λ con. (con, rest scan.new)) result (leaf_at scan.old.problem used leaf (rest scan.old)) }

@@ -94,7 +94,7 @@ fn form(scan: &mut Scan, depth: u32, full: bool) -> Result<Form, Stop>
     Ok(form)
 }
 
-/// Reads what stands behind the name of a form without others inside, and counts its cells.
+/// Reads what stands after the name of a form without others inside, and counts its cells.
 fn counted(scan: &mut Scan, name: Leaf, used: &mut u64) -> Result<Con, Stop>
     requires { used.old ≤ CELLS }
     ensures moves { Moves scan.old scan.new }
@@ -141,7 +141,7 @@ fn only(terms: &Terms) -> Term
     }
 }
 
-/// Reads the 0/1 term behind a constraint, with the marks before and behind it.
+/// Reads the 0/1 term after a constraint, with the marks before and after it.
 fn bit(scan: &mut Scan) -> Result<Term, Stop>
     ensures moves { Moves scan.old scan.new }
     ensures gives { Gives (λ r. (r, rest scan.new)) result (bit_at scan.old.problem (rest scan.old)) }
@@ -152,7 +152,7 @@ fn bit(scan: &mut Scan) -> Result<Term, Stop>
     Ok(only(&listed.terms))
 }
 
-/// Reads a constraint inside a form and the mark behind it, and counts its cells behind the first so many and those of the
+/// Reads a constraint inside a form and the mark after it, and counts its cells after the first so many and those of the
 /// others. Answers whether the constraints go on.
 #[cycle(constraints)]
 fn turn(
@@ -193,7 +193,7 @@ fn some_children(scan: &mut Scan, depth: u32, used: &mut u64) -> Result<Vec<Con>
     }
 }
 
-/// Reads the constraints inside a form behind the `{`, and counts their cells.
+/// Reads the constraints inside a form after the `{`, and counts their cells.
 #[cycle(constraints)]
 fn children(scan: &mut Scan, depth: u32, used: &mut u64) -> Result<Vec<Con>, Stop>
     requires { used.old ≤ CELLS }
@@ -209,7 +209,7 @@ fn children(scan: &mut Scan, depth: u32, used: &mut u64) -> Result<Vec<Con>, Sto
     some_children(scan, depth, used)
 }
 
-/// Reads what stands behind the name of a form of several constraints, and counts its cells.
+/// Reads what stands after the name of a form of several constraints, and counts its cells.
 #[cycle(constraints)]
 fn gather(scan: &mut Scan, depth: u32, name: Gather, used: &mut u64) -> Result<Con, Stop>
     requires { used.old ≤ CELLS }
@@ -225,7 +225,7 @@ fn gather(scan: &mut Scan, depth: u32, name: Gather, used: &mut u64) -> Result<C
     Ok(together(scan.alloc(), name, children)?)
 }
 
-/// Reads what stands behind the name of a form of a constraint and a 0/1 term, and counts its cells.
+/// Reads what stands after the name of a form of a constraint and a 0/1 term, and counts its cells.
 #[cycle(constraints)]
 fn tie(scan: &mut Scan, depth: u32, name: Tie, used: &mut u64) -> Result<Con, Stop>
     requires { used.old ≤ CELLS }
@@ -240,7 +240,7 @@ fn tie(scan: &mut Scan, depth: u32, name: Tie, used: &mut u64) -> Result<Con, St
     Ok(beside(scan.alloc(), name, con, bit)?)
 }
 
-/// Reads a constraint in which so many forms may stand inside one another, and counts its cells behind those that are
+/// Reads a constraint in which so many forms may stand inside one another, and counts its cells after those that are
 /// used before it. `full` says that the limit of constraints leaves none more here.
 #[cycle(constraints)]
 pub fn constraint(scan: &mut Scan, depth: u32, full: bool, used: &mut u64) -> Result<Con, Stop>

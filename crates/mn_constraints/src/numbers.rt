@@ -49,7 +49,7 @@ impl Wanted {
         }
     }
 
-    /// What a number breaks behind so many.
+    /// What a number breaks after so many.
     fn one_kind(&self, before: usize) -> Option<Kind>
         ensures { result ≡ when (is_full self.now.count before) Shape }
     {
@@ -60,7 +60,7 @@ impl Wanted {
         }
     }
 
-    /// What the `,` breaks behind so many numbers.
+    /// What the `,` breaks after so many numbers.
     fn another_kind(&self, count: usize) -> Option<Kind>
         ensures { result ≡ at_another (wanted_seen self.now) count }
     {
@@ -75,7 +75,7 @@ impl Wanted {
         )
     }
 
-    /// What the end breaks behind so many numbers.
+    /// What the end breaks after so many numbers.
     fn close_kind(&self, count: usize) -> Option<Kind>
         ensures { result ≡ at_close (wanted_seen self.now) count }
     {
@@ -104,14 +104,14 @@ pub fn number(scan: &mut Scan, broken: Option<Kind>) -> Result<i64, Stop>
     Ok(number)
 }
 
-/// How many numbers there are behind the first so many.
+/// How many numbers there are after the first so many.
 fn behind(numbers: &Ints, first: usize) -> usize
     ensures { result ≡ length (drop first numbers.now) }
 {
     numbers.len().saturating_sub(first)
 }
 
-/// Reads a number and the mark behind it, where the list's numbers are those behind the first so many. Answers whether
+/// Reads a number and the mark after it, where the list's numbers are those after the first so many. Answers whether
 /// the list goes on.
 fn turn(
     scan: &mut Scan,
@@ -132,7 +132,7 @@ fn turn(
     scan.ends(shut, wanted.another_kind(count), wanted.close_kind(count))
 }
 
-/// Reads one number or more, with `,` between, and the mark that closes them. Puts them behind those that are there.
+/// Reads one number or more, with `,` between, and the mark that closes them. Puts them after those that are there.
 pub fn numbers_to(
     scan: &mut Scan,
     shut: Mark,
@@ -152,7 +152,7 @@ pub fn numbers_to(
     }
 }
 
-/// Reads a list of numbers behind its `[`.
+/// Reads a list of numbers after its `[`.
 #[tactic(auto, using(mn_references::proofs::ListTurns::shut_stops, mn_references::proofs::ListTurns::shut_reads, mn_references::proofs::ListTurns::opened), unfolding(crate::specs::Numbering::numbers_behind, crate::specs::Numbering::numbers_from))]
 fn numbers_behind(scan: &mut Scan, wanted: Wanted) -> Result<Ints, Stop>
     ensures moves { Moves scan.old scan.new }

@@ -42,7 +42,7 @@ fn sees_start<'a>(scan: &Scan<'_, 'a>) -> Result<Start<'a>, Stop>
     }
 }
 
-/// What a tuple of so many numbers breaks behind these cells, where so many are used before the table.
+/// What a tuple of so many numbers breaks after these cells, where so many are used before the table.
 fn tuple_kind(used: u64, arity: u32, cells: &Ints) -> Option<Kind>
     ensures { result ≡ at_tuple used arity cells.now }
 {
@@ -54,7 +54,7 @@ fn tuple_kind(used: u64, arity: u32, cells: &Ints) -> Option<Kind>
     }
 }
 
-/// Reads a tuple, and puts its numbers behind the cells of those before it.
+/// Reads a tuple, and puts its numbers after the cells of those before it.
 fn tuple(scan: &mut Scan, used: u64, arity: u32, cells: &mut Ints) -> Result<(), Stop>
     ensures moves { Moves scan.old scan.new }
     ensures gives { Gives (λ _. (drop (length cells.old) cells.new, rest scan.new)) result (tuple_at used arity cells.old (rest scan.old)) }
@@ -69,7 +69,7 @@ fn tuple(scan: &mut Scan, used: u64, arity: u32, cells: &mut Ints) -> Result<(),
     numbers_to(scan, Mark::Greater, wanted, cells)
 }
 
-/// Reads a tuple and the mark behind it. Answers whether the tuples go on.
+/// Reads a tuple and the mark after it. Answers whether the tuples go on.
 fn turn(scan: &mut Scan, used: u64, arity: u32, cells: &mut Ints) -> Result<bool, Stop>
     ensures moves { Moves scan.old scan.new }
     ensures gives { Gives (λ more. (turn_of cells.new more, rest scan.new)) result (turn_at CloseCurly tuple_ends with_tuple (tuple_at used arity) cells.old (rest scan.old)) }
@@ -92,7 +92,7 @@ fn tuples_to(scan: &mut Scan, used: u64, arity: u32) -> Result<Ints, Stop>
     }
 }
 
-/// Reads tuples behind the `{`.
+/// Reads tuples after the `{`.
 #[tactic(auto, using(mn_references::proofs::ListTurns::shut_stops, mn_references::proofs::ListTurns::shut_reads, mn_references::proofs::ListTurns::opened), unfolding(crate::specs::Tabling::tuples_behind, crate::specs::Tabling::tuples_from))]
 fn tuples(scan: &mut Scan, used: u64, arity: u32) -> Result<Ints, Stop>
     ensures moves { Moves scan.old scan.new }

@@ -5,7 +5,7 @@ use Rattle.mn_model.specs.Variable.{variable}
 use Rattle.mn_model.specs.declared.variable.Kind.{Kind}
 use Rattle.mn_model.specs.declared.variable.VarId.{VarId}
 
--- with variables, of which the first has the number behind those before
+-- with variables, of which the first has the number after those before
 abbrev pub with_declaration : Problem → List ℕ → List ℕ → Kind → List ℤ → Problem
 with_declaration p name dims kind domain =
     record p { decls = p.decls ++ record { name = name; dims = dims; kind = kind; domain = domain; first = variable (variable_count p.decls) } ∷ [] }

@@ -1,4 +1,4 @@
--- What stands behind an entry of a bracketed list.
+-- What stands after an entry of a bracketed list.
 use Rattle.std.specs.Prelude.{Bool, true, false, Option, Some, None, if◌then◌else◌}
 use Rattle.mn_lexer.specs.Terminals.{Terminal}
 use Rattle.mn_lexer.specs.declared.marks.Mark.{Mark}

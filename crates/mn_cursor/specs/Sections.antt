@@ -8,7 +8,7 @@ use Rattle.mn_cursor.specs.Looks.{first_as}
 use Rattle.mn_cursor.specs.Progress.{Progress, rest, IsTold}
 use Rattle.mn_cursor.specs.declared.heads.Head.{Head}
 
--- The reader answers the problem that is reached and the head behind the section, with which it goes on; the cursor
+-- The reader answers the problem that is reached and the head after the section, with which it goes on; the cursor
 -- stands before that head.
 abbrev pub IsRead : Progress → Answer (Problem × Head) → Type 0
 IsRead new answer = (h : Head) × (first_as head_of (rest new) ≡ Some h) × (answer ≡ Ok ((new.problem, h), drop 1 (rest new)))

@@ -51,16 +51,16 @@ abbrev pub at_bracket : List ℕ → Option Kind
 at_bracket [] = Some Shape
 at_bracket (dim ∷ dims) = None
 
--- At the `,` behind an entry, where so many are wanted from that one on: one more is wanted. What the entry's end breaks,
+-- At the `,` after an entry, where so many are wanted from that one on: one more is wanted. What the entry's end breaks,
 -- if it names a whole matrix, is broken there too.
 abbrev pub at_next : ℕ → Option Unfit → Option Kind
 at_next wanted unfit = lesser (as_kind unfit) (when (leb wanted 1) Shape)
 
--- At the `]` behind it: no more is wanted.
+-- At the `]` after it: no more is wanted.
 abbrev pub at_last : ℕ → Option Unfit → Option Kind
 at_last wanted unfit = lesser (as_kind unfit) (when (ltb 1 wanted) Shape)
 
--- what the token behind a nest breaks, whatever it is
+-- what the token after a nest breaks, whatever it is
 abbrev pub behind_nest : Problem → Nest → Option Unfit
 behind_nest p (one_var r) = (value_ref p (one_place p false) r).behind
 behind_nest p (nest_of ns) = None
@@ -81,7 +81,7 @@ abbrev mutual
       breaks_nest p n dims
       ++ behind (length (spell_nest n)) (on (at_next wanted (behind_nest p n)) ++ behind 1 (breaks_nests p ns (wanted - 1) dims))
 
--- the variables with those of a nest behind them, row by row
+-- the variables with those of a nest after them, row by row
 abbrev mutual
   pub with_nest : Problem → Nest → List VarId → List VarId
   with_nest p (one_var r) vars = vars ++ (value_ref p (one_place p false) r).vars
@@ -93,7 +93,7 @@ abbrev mutual
 
 -- 3. Its reader
 
--- what a nest gives: the variables with its own behind them, and what the token behind it breaks
+-- what a nest gives: the variables with its own after them, and what the token after it breaks
 pub record Led : Type 0 where
   pub vars : List VarId
   pub behind : Option Unfit
@@ -141,7 +141,7 @@ unfoldable pub nests_rest : (Entering → Reader Led) → Entering → NestStart
 nests_rest entry s (inl name) = never
 nests_rest entry s (inr u) = items_at CloseSquare nests_ends nests_led entry s
 
--- a nest behind variables, by the dimensions that are left
+-- a nest after variables, by the dimensions that are left
 abbrev pub nest_at : Problem → List ℕ → List VarId → Reader Led
 nest_at p [] vars = then_read (nest_first p []) (var_rest p vars)
 nest_at p (dim ∷ dims) vars =

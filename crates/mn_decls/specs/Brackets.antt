@@ -28,12 +28,12 @@ levels (dim ∷ dims) (w ∷ ws) outer = levels dims ws (record { wanted = w; di
 unfoldable pub entries_from : Problem → List ℕ → Entering → Reader Led
 entries_from p dims = items_at CloseSquare nests_ends nests_led (λ s. nest_at p dims s.vars)
 
--- the mark behind an entry, by what its end breaks
+-- the mark after an entry, by what its end breaks
 abbrev pub entry_end : ℕ → Led → Reader (Turn Entering Led)
 entry_end wanted v =
     end_at CloseSquare (at_next wanted v.behind) (at_last wanted v.behind) (record { wanted = wanted - 1; vars = v.vars }) (record { vars = v.vars; behind = None })
 
--- what is left of a bracket behind an entry, and of all that are open
+-- what is left of a bracket after an entry, and of all that are open
 unfoldable pub level_rest : Problem → Level → Led → Reader Led
 level_rest p l v = then_read (entry_end l.wanted v) (turned (entries_from p l.dims))
 
@@ -41,7 +41,7 @@ abbrev pub rest_of : Problem → List Level → Led → Reader Led
 rest_of p [] v = ret v
 rest_of p (l ∷ outer) v = then_read (level_rest p l v) (rest_of p outer)
 
--- where an entry is to be read next, and behind one
+-- where an entry is to be read next, and after one
 unfoldable pub entry_then : Problem → List ℕ → List VarId → List Level → Reader Led
 entry_then p dims vars outer = then_read (nest_at p dims vars) (rest_of p outer)
 
@@ -59,7 +59,7 @@ pub record AreOf (dims : List ℕ) (b : Brackets) : Type 0 where
   pub same : b.dims.now ≡ dims
   pub few : length b.wanted.items ≤ length dims
 
--- behind the mark of an entry the bracket goes on, or it is whole
+-- after the mark of an entry the bracket goes on, or it is whole
 abbrev pub ended : ℕ → Led → Bool → Turn Entering Led
 ended wanted v true = goes_on (record { wanted = wanted - 1; vars = v.vars })
 ended wanted v false = is_done (record { vars = v.vars; behind = None })
@@ -72,11 +72,11 @@ IsLed vars rest answer = (behind : Option Unfit) × (answer ≡ Ok (record { var
 abbrev pub IsNamed : Problem → List Terminal → List Terminal → Named → Type 0
 IsNamed p ts rest n = (f : Found) × (ref_at p (one_place p false) ts ≡ Ok (f, rest)) × (n.vars ≡ f.vars) × (n.behind ≡ f.behind)
 
--- the variables with those of one more name behind them
+-- the variables with those of one more name after them
 abbrev pub led_by : List VarId → Named → Led
 led_by vars n = record { vars = vars ++ n.vars; behind = n.behind }
 
--- behind the marks of an entry one more is read, or all are closed
+-- after the marks of an entry one more is read, or all are closed
 abbrev pub IsOn : Bool → Problem → Brackets → List Terminal → Answer Led → Type 0
 IsOn true p b rest answer = before_entry p b rest ≡ answer
 IsOn false p b rest answer = IsLed b.vars rest answer

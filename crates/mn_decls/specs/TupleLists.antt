@@ -28,7 +28,7 @@ pub record TupleList : Type 0 where
 abbrev pub spell_list : TupleList → List Terminal
 spell_list l = word l.name.bytes ∷ number l.count ∷ number l.size ∷ map (λ z. number z) l.numbers
 
--- the section: tuple lists, and the head behind them
+-- the section: tuple lists, and the head after them
 abbrev pub spell_lists : List TupleList → Head → List Terminal
 spell_lists [] h = head_token h ∷ []
 spell_lists (l ∷ ls) h = spell_list l ++ spell_lists ls h
@@ -56,7 +56,7 @@ after_list s l = listed s.problem l.name.bytes l.count l.size l.numbers
 abbrev pub new_list : Listing → List ℕ → Option Kind
 new_list s name = if is_some (listed_as s.problem.tuples name) then Some kinds.Name else when s.lacks kinds.Shape
 
--- the head behind the lists: a number may be lacking
+-- the head after the lists: a number may be lacking
 abbrev pub end_of_lists : Listing → Option Kind
 end_of_lists s = when s.lacks kinds.Shape
 
@@ -73,7 +73,7 @@ abbrev pub fair_size : Problem → ℤ → ℤ → Option Kind
 fair_size p count size =
     if int_lt size (pos 1) then Some kinds.Shape else when (is_past_cells p (count *ℤ size)) (kinds.Limit limits.Cells)
 
--- a number behind those before it: there may be no more than are wanted
+-- a number after those before it: there may be no more than are wanted
 abbrev pub fair_number : ℤ → List ℤ → ℤ → Option Kind
 fair_number wanted before z = when (not (int_lt (pos (length before)) wanted)) kinds.Shape
 
@@ -88,7 +88,7 @@ breaks_list s l =
     ++ behind 1 (on (fair_size s.problem l.count l.size)
     ++ behind 1 (breaks_numbers (l.count *ℤ l.size) [] l.numbers)))
 
--- what the section breaks, behind what is listed before it
+-- what the section breaks, after what is listed before it
 abbrev pub breaks_lists : Listing → List TupleList → List Break
 breaks_lists s [] = on (end_of_lists s)
 breaks_lists s (l ∷ ls) = breaks_list s l ++ behind (length (spell_list l)) (breaks_lists (after_list s l) ls)
@@ -98,7 +98,7 @@ abbrev pub value_lists : Listing → List TupleList → Problem
 value_lists s [] = s.problem
 value_lists s (l ∷ ls) = value_lists (after_list s l) ls
 
--- The readers: of the numbers of a list, of what stands behind its name, of a name or a head, and of the section.
+-- The readers: of the numbers of a list, of what stands after its name, of a name or a head, and of the section.
 abbrev pub number_turn : ℤ → List ℤ → Reader (Turn (List ℤ) (List ℤ))
 number_turn wanted before =
     or_else is_number (then_read (number_at (fair_number wanted before)) (λ z. ret (goes_on (before ++ z ∷ [])))) (ret (is_done before))
@@ -128,7 +128,7 @@ lists_at s = body_at first_at list_at listed_before s
 abbrev pub tuplelist_at : Problem → Reader (Problem × Head)
 tuplelist_at p = lists_at (whole p)
 
--- the language of the section, behind what is listed before it
+-- the language of the section, after what is listed before it
 abbrev pub lists_spec : Listing → Spec (List TupleList × Head) (Problem × Head)
 lists_spec s = record {
   spell = λ x. spell_lists x.0 x.1;

@@ -52,7 +52,7 @@ pub data Part : Type 0 where
   one_value : ℤ → Part
   range : ℤ → ℤ → Part
 
--- what stands behind the dimensions: nothing, the ends of a stretch, or parts
+-- what stands after the dimensions: nothing, the ends of a stretch, or parts
 abbrev pub Written : variable.Kind → Type 0
 Written Binary = Unit {0}
 Written Bounded = ℤ × ℤ
@@ -106,7 +106,7 @@ abbrev pub spell_target : Target → List Terminal
 spell_target (of_var r) = mark Equals ∷ spell_ref r
 spell_target (of_matrix l n) = mark OpenSquare ∷ spell_matrix l n
 
--- the section: declarations and aliases, and the head behind them
+-- the section: declarations and aliases, and the head after them
 pub data Entry : Type 0 where
   declares : Declaration → Entry
   names : Naming → Entry
@@ -132,7 +132,7 @@ room_for_one p = when (leb VARIABLES (variable_count p.decls)) (kinds.Limit limi
 abbrev pub new_name : Problem → List ℕ → Option Kind
 new_name p name = when (is_some (declared_as p.decls name) || is_some (aliased_as p.aliases name)) kinds.Name
 
--- a dimension behind others: it is at least 1, and with it there is room for the variables
+-- a dimension after others: it is at least 1, and with it there is room for the variables
 abbrev pub fair_dim : Problem → List ℕ → ℤ → Option Kind
 fair_dim p before dim =
     if int_lt dim (pos 1) then Some kinds.Shape
@@ -224,7 +224,7 @@ domain_of Bounded d = stretch d.0 d.1
 domain_of Sparse d = value_maybe parts_judge [] with_part d []
 domain_of Discrete d = stretch d.0 d.1
 
--- behind its kind's word
+-- after its kind's word
 abbrev pub breaks_behind : Problem → Declaration → List Break
 breaks_behind p d =
     on (new_name p d.name.bytes)
@@ -355,12 +355,12 @@ unfoldable pub var_at : Problem → List ℕ → Reader Declaring
 var_at p name =
     then_read (mark_at MarksOnly Equals None) (λ u. then_read (ref_at p (one_place p false)) (λ f. ret (with_one p name f)))
 
--- what stands behind the name of an alias
+-- what stands after the name of an alias
 unfoldable pub target_at : Problem → List ℕ → Reader Declaring
 target_at p name =
     or_else (is_the_mark OpenSquare) (then_read (mark_at MarksOnly OpenSquare None) (λ u. matrix_at p name)) (var_at p name)
 
--- and behind its word
+-- and after its word
 unfoldable pub alias_at : Problem → Reader Declaring
 alias_at p = then_read (name_at (new_name p)) (target_at p)
 

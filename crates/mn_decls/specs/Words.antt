@@ -1,4 +1,4 @@
--- What stands where an entry of a section of variables may begin, and behind one.
+-- What stands where an entry of a section of variables may begin, and after one.
 use Rattle.std.specs.Prelude.{◌≡◌, ◌⊎◌, ◌<◌, List, length, Option}
 use Rattle.std.proofs.Common.{inl, inr}
 use Rattle.mn_lexer.specs.Terminals.{Terminal}

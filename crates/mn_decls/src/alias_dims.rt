@@ -30,7 +30,7 @@ fn dim_of_alias(c: &mut Cursor) -> Result<u32, Stop>
     Ok(dim as u32)
 }
 
-/// Reads the dimensions of an alias, behind the mark that opens them.
+/// Reads the dimensions of an alias, after the mark that opens them.
 pub fn alias_dims(c: &mut Cursor) -> Result<Dims, Stop>
     ensures moves { Moves c.old c.new }
     ensures gives { Gives (λ dims. (dims, rest c.new)) result (alias_dims_at (rest c.old)) }

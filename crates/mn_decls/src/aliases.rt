@@ -17,7 +17,7 @@ use mn_lexer::Mark;
 use mn_model::{Dims, VarIds};
 use mn_references::Unfit;
 
-/// Reads the brackets behind `=`, by the dimensions of an alias.
+/// Reads the brackets after `=`, by the dimensions of an alias.
 fn nest(c: &mut Cursor, dims: &[u32]) -> Result<VarIds, Stop>
     ensures moves { Moves c.old c.new }
     ensures ok { IfOk result (λ vars. IsLed vars (rest c.new) (nest_at c.old.problem dims.now [] (rest c.old))) }
@@ -37,7 +37,7 @@ fn nest(c: &mut Cursor, dims: &[u32]) -> Result<VarIds, Stop>
     }
 }
 
-/// Reads what an alias with dimensions leads to, behind the mark that opens them.
+/// Reads what an alias with dimensions leads to, after the mark that opens them.
 fn matrix(c: &mut Cursor, name: &[u8]) -> Result<(), Stop>
     requires named { IsName name.now }
     requires fresh { new_name c.old.problem name.now ≡ None }
@@ -54,7 +54,7 @@ fn matrix(c: &mut Cursor, name: &[u8]) -> Result<(), Stop>
     Ok(())
 }
 
-/// Reads what an alias without dimensions leads to. Answers what the token behind it breaks.
+/// Reads what an alias without dimensions leads to. Answers what the token after it breaks.
 fn one(c: &mut Cursor, name: &[u8]) -> Result<Option<Unfit>, Stop>
     requires named { IsName name.now }
     requires fresh { new_name c.old.problem name.now ≡ None }
@@ -74,7 +74,7 @@ fn one(c: &mut Cursor, name: &[u8]) -> Result<Option<Unfit>, Stop>
     Ok(None)
 }
 
-/// Reads an alias behind its word. Answers what the token behind it breaks.
+/// Reads an alias after its word. Answers what the token after it breaks.
 pub fn alias(c: &mut Cursor) -> Result<Option<Unfit>, Stop>
     ensures goes_on { GoesOn c.old c.new }
     ensures ok { IfOk result (λ behind. alias_at c.old.problem (rest c.old) ≡ Ok (record { problem = c.new.problem; behind = behind }, rest c.new)) }

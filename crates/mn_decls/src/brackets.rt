@@ -37,7 +37,7 @@ fn shape_if(broken: bool) -> Option<Kind>
     if broken { Some(Kind::Shape) } else { None }
 }
 
-/// Reads the mark behind an entry of a bracket that wants so many from that one on. Answers whether it is `,`.
+/// Reads the mark after an entry of a bracket that wants so many from that one on. Answers whether it is `,`.
 fn entry_end(c: &mut Cursor, wanted: u32, behind: Option<Unfit>) -> Result<bool, Stop>
     ensures moves { Moves c.old c.new }
     ensures gives { (v : Led) → v.behind ≡ behind → Gives (λ more. (ended wanted v more, rest c.new)) result (entry_end wanted v (rest c.old)) }
@@ -92,7 +92,7 @@ fn variable(c: &mut Cursor) -> Result<Named, Stop>
     one_name(c)
 }
 
-/// Adds variables behind others.
+/// Adds variables after others.
 fn push_vars(out: &mut VarIds, vars: &[VarId]) -> Result<(), NoMemory>
     ensures { OnOk result (out.new ≡ out.old ++ vars.now) }
 {
@@ -140,7 +140,7 @@ impl<'d> Brackets<'d> {
         Ok(())
     }
 
-    /// Reads an entry that is a variable. Answers what the token behind it breaks.
+    /// Reads an entry that is a variable. Answers what the token after it breaks.
     pub fn name(&mut self, c: &mut Cursor) -> Result<Option<Unfit>, Stop>
         requires depth { length self.old.dims.now ≤ length self.old.wanted.items }
         ensures moves { Moves c.old c.new }
@@ -155,7 +155,7 @@ impl<'d> Brackets<'d> {
         Ok(named.behind)
     }
 
-    /// Reads the marks behind an entry, up to a `,` with which a bracket goes on. Answers whether there is one; else all
+    /// Reads the marks after an entry, up to a `,` with which a bracket goes on. Answers whether there is one; else all
     /// brackets are closed.
     pub fn close(&mut self, c: &mut Cursor, behind: Option<Unfit>) -> Result<bool, Stop>
         requires few { length self.old.wanted.items ≤ length self.old.dims.now }

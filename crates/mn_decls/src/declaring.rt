@@ -148,7 +148,7 @@ fn range(c: &mut Cursor, limited: bool) -> Result<Domain, Stop>
     Ok(Domain::stretch(c.alloc(), lo, hi))
 }
 
-/// Reads what stands behind the dimensions of a declaration.
+/// Reads what stands after the dimensions of a declaration.
 #[tactic(auto, unfolding(crate::specs::Variables::domain_at))]
 fn domain(c: &mut Cursor, kind: mn_model::Kind) -> Result<Domain, Stop>
     ensures moves { Moves c.old c.new }
@@ -163,7 +163,7 @@ fn domain(c: &mut Cursor, kind: mn_model::Kind) -> Result<Domain, Stop>
     }
 }
 
-/// Reads a declaration behind its kind's word.
+/// Reads a declaration after its kind's word.
 fn declaration(c: &mut Cursor, kind: mn_model::Kind) -> Result<(), Stop>
     requires room { variable_count c.old.problem.decls + 1 ≤ VARIABLES }
     ensures goes_on { GoesOn c.old c.new }
@@ -184,7 +184,7 @@ enum Turn {
     End,
 }
 
-/// Reads an entry, or looks at the head behind the last.
+/// Reads an entry, or looks at the head after the last.
 fn entry(c: &mut Cursor, behind: Option<Unfit>) -> Result<Turn, Stop>
     ensures goes_on { GoesOn c.old c.new }
     ensures ok { IfOk result (IsTurn c.old.problem behind (rest c.old) c.new) }

@@ -14,7 +14,7 @@ use mn_grammar::{Kind, Limit, Stop};
 use mn_lexer::Mark;
 use mn_model::{Dims, Instance, VARIABLES};
 
-/// The condition on a dimension behind others.
+/// The condition on a dimension after others.
 fn fair_dim(inst: &Instance, before: &Shape, dim: i64) -> Option<Kind>
     requires size { size_of_dims before.now ≤ VARIABLES }
     requires dim { IsValue dim }
@@ -29,7 +29,7 @@ fn fair_dim(inst: &Instance, before: &Shape, dim: i64) -> Option<Kind>
     }
 }
 
-/// Reads a dimension behind others.
+/// Reads a dimension after others.
 #[tactic(auto, using(mn_cursor::proofs::Looking::unseen_stops, mn_cursor::proofs::Looking::seen_stops, mn_cursor::proofs::Looking::seen_reads), unfolding(mn_grammar::specs::Reading::number_at))]
 fn dim(c: &mut Cursor, before: &Shape) -> Result<u32, Stop>
     requires some { 1 ≤ size_of_dims before.now }
@@ -44,7 +44,7 @@ fn dim(c: &mut Cursor, before: &Shape) -> Result<u32, Stop>
     Ok(dim as u32)
 }
 
-/// Reads dimensions behind the mark that opens them.
+/// Reads dimensions after the mark that opens them.
 fn dims_list(c: &mut Cursor) -> Result<Dims, Stop>
     requires room { variable_count c.old.problem.decls + 1 ≤ VARIABLES }
     ensures moves { Moves c.old c.new }

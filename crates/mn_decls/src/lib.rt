@@ -1,6 +1,6 @@
 //! The sections of a text that declare: variables with their further names, and tuple lists.
 //!
-//! Each section's function reads the entries behind the section's head, up to the next head, and adds what they declare
+//! Each section's function reads the entries after the section's head, up to the next head, and adds what they declare
 //! to the instance of a `Cursor`. It accepts exactly the entries of the language, and refuses everything else at the right
 //! token and with the right kind: its contract says that it answers what a reader of `specs/` answers, which is lawful for
 //! the language's trees.

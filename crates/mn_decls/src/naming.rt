@@ -19,7 +19,7 @@ use mn_references::{Aimed, Scan, Unfit, reference_at};
 #[derive(Debug, Drop)]
 pub struct Named {
     pub vars: VarIds,
-    /// What the token behind it breaks, where it names a whole matrix.
+    /// What the token after it breaks, where it names a whole matrix.
     pub behind: Option<Unfit>,
 }
 

@@ -87,7 +87,7 @@ fn size(c: &mut Cursor, count: u64) -> Result<u64, Stop>
     Ok(size as u64)
 }
 
-/// The condition on one more number behind others.
+/// The condition on one more number after others.
 fn fair_number(wanted: u64, before: &Ints, number: i64) -> Option<Kind>
     ensures { result ≡ fair_number (pos wanted) before.now number }
 {
@@ -134,7 +134,7 @@ fn lacking_kind(inst: &Instance, name: &[u8], first: First) -> Kind
     }
 }
 
-/// What stops the reading behind a list that lacks numbers.
+/// What stops the reading after a list that lacks numbers.
 fn lacking(c: &Cursor, name: &[u8]) -> Stop
     requires { IsName name.now }
     ensures { (arity : ℕ) (cells : List ℤ) → Stops result (first_at (record { problem = with_tuples c.now.problem name.now arity cells; lacks = true }) (rest c.now)) }
@@ -152,7 +152,7 @@ fn is_declared(inst: &Instance, name: &[u8]) -> bool
     inst.find_tuples(str_of(name)).is_some()
 }
 
-/// The condition on a name that begins a tuple list, behind whole ones.
+/// The condition on a name that begins a tuple list, after whole ones.
 fn new_list(inst: &Instance, name: &[u8]) -> Option<Kind>
     requires { IsName name.now }
     ensures { result ≡ new_list (whole inst.now) name.now }
@@ -164,7 +164,7 @@ fn new_list(inst: &Instance, name: &[u8]) -> Option<Kind>
     }
 }
 
-/// Reads a tuple list behind its name.
+/// Reads a tuple list after its name.
 fn list(c: &mut Cursor, name: &[u8]) -> Result<(), Stop>
     requires named { IsName name.now }
     requires unused { listed_as c.old.problem.tuples name.now ≡ None }

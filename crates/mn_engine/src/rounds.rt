@@ -7,7 +7,7 @@ ghost use Rattle.mn_engine.specs.Settling.{AreReady, ClosedEach, ComesAt, FirstC
 
 use mn_prop::{Ctx, Fail, Runner};
 
-// The place that comes behind `i` others, from the first place or from the last.
+// The place that comes after `i` others, from the first place or from the last.
 fn place(i: usize, len: usize, back: bool) -> usize
     requires { i < len }
     ensures { ComesAt back len i result }
@@ -27,7 +27,7 @@ fn closed_after(moved: bool, settles: bool, last: usize) -> usize
     }
 }
 
-/// One pass of each propagator behind the first `from`, in order or in the other direction. The sets are closed under those.
+/// One pass of each propagator after the first `from`, in order or in the other direction. The sets are closed under those.
 /// Says under how many of the last they are closed afterwards: under those that passed since a value went, and if nothing
 /// went under all.
 fn pass_all<P: Runner>(
@@ -59,7 +59,7 @@ fn pass_all<P: Runner>(
 }
 
 /// Passes of the propagators until the sets are closed under each, in order and in the other direction in turn: what goes
-/// from constraint to constraint takes one round, whichever way they are written. A round begins behind those under which
+/// from constraint to constraint takes one round, whichever way they are written. A round begins after those under which
 /// the sets are closed.
 pub fn settle_all<P: Runner>(runners: &mut Vec<P>, c: &mut Ctx) -> Result<(), Fail>
     requires { AreReady (vars_of c.old) (map P.posted runners.old.items) }

@@ -28,7 +28,7 @@ use Rattle.mn_language.specs.declared.forms.Numbers.TheVariants as numbers
 use Rattle.mn_language.specs.declared.forms.Places.{Places}
 use Rattle.mn_language.specs.declared.forms.Places.TheVariants as places
 
--- what an argument stands for: the terms of a term or a vector, with what the token behind it breaks; numbers; or the
+-- what an argument stands for: the terms of a term or a vector, with what the token after it breaks; numbers; or the
 -- tuples of a table
 pub data Value : Type 0 where
   of_terms : List Term → Option Unfit → Value
@@ -49,13 +49,13 @@ abbrev pub length_wanted : List Value → ℕ
 length_wanted [] = 0
 length_wanted (v ∷ vs) = length_of v
 
--- what the token behind it breaks: a whole matrix without indices ends only there
+-- what the token after it breaks: a whole matrix without indices ends only there
 abbrev pub behind_value : Value → Option Kind
 behind_value (of_terms terms broken) = as_kind broken
 behind_value (of_numbers zs) = None
 behind_value (of_tuples tab) = None
 
--- the condition on the token behind the last of these
+-- the condition on the token after the last of these
 abbrev pub behind_last : List Value → Option Kind
 behind_last [] = None
 behind_last (v ∷ []) = behind_value v
@@ -139,11 +139,11 @@ is_odd (suc n) = not (is_odd n)
 abbrev pub at_one : Wanted → List ℤ → ℤ → Option Kind
 at_one w before z = when (is_full w.count (length before)) kinds.Shape
 
--- At the `,` behind n numbers: the limit leaves one more, and one more is wanted.
+-- At the `,` after n numbers: the limit leaves one more, and one more is wanted.
 abbrev pub at_another : Wanted → ℕ → Option Kind
 at_another w n = lesser (when (w.limited && leb PLACES n) (kinds.Limit limits.Vector)) (when (is_full w.count n) kinds.Shape)
 
--- At the end behind n numbers: they are enough, and in pairs where that is wanted.
+-- At the end after n numbers: they are enough, and in pairs where that is wanted.
 abbrev pub at_close : Wanted → ℕ → Option Kind
 at_close w n = when (is_short w.count n || (w.paired && is_odd n)) kinds.Shape
 
@@ -183,7 +183,7 @@ pub data Table : Type 0 where
 abbrev pub spell_tuple : Items ℤ → List Terminal
 spell_tuple t = mark Less ∷ spell_items Greater spell_number t
 
--- At a tuple's `<`, behind the cells that are used before the table and those of its tuples so far: the limit leaves n.
+-- At a tuple's `<`, after the cells that are used before the table and those of its tuples so far: the limit leaves n.
 abbrev pub at_tuple : ℕ → ℕ → List ℤ → Option Kind
 at_tuple used n cells = when (ltb CELLS (used + length cells + n)) (kinds.Limit limits.Cells)
 
@@ -230,7 +230,7 @@ value_table p used n (here l) = Here n (value_maybe (tuple_judge used n) [] with
 abbrev pub spell_range : ℤ × ℤ → List Terminal
 spell_range r = mark OpenSquare ∷ number r.0 ∷ mark Comma ∷ number r.1 ∷ mark CloseSquare ∷ []
 
--- 5. All of them, each behind the values of those before it, in a problem with so many cells that are used
+-- 5. All of them, each after the values of those before it, in a problem with so many cells that are used
 abbrev pub Written : Argument → Type 0
 Written takes.Term = Entry
 Written (takes.Vector w) = Vector
@@ -263,13 +263,13 @@ value_argument p used (takes.Numbers w) vs l = of_numbers (value_numbers (number
 value_argument p used takes.Range vs r = of_numbers (r.0 ∷ r.1 ∷ [])
 value_argument p used takes.Tuples vs t = of_tuples (value_table p used (length_wanted vs) t)
 
--- a row of them, with `,` between and `)` behind the last
+-- a row of them, with `,` between and `)` after the last
 abbrev pub spell_arguments : (row : List Argument) → Arguments Written row → List Terminal
 spell_arguments [] u = mark CloseRound ∷ []
 spell_arguments (k ∷ []) a = spell_argument k a.0 ++ mark CloseRound ∷ []
 spell_arguments (k ∷ l ∷ ks) a = spell_argument k a.0 ++ mark Comma ∷ spell_arguments (l ∷ ks) a.1
 
--- the condition on the mark behind each
+-- the condition on the mark after each
 abbrev pub behind_argument : Argument → List Value → Option Kind
 behind_argument k vs = behind_last vs
 

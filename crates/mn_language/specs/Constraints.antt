@@ -125,7 +125,7 @@ before_all p = record { full = leb CONSTRAINTS (length p.cons); cells = cells_of
 abbrev pub inside : ℕ → Before
 inside n = record { full = false; cells = n }
 
--- how many cells there are behind children
+-- how many cells there are after children
 abbrev pub cells_behind : ℕ → List Con → ℕ
 cells_behind n cs = n + total cell_count cs
 
@@ -151,7 +151,7 @@ abbrev mutual
   value_constraint p (gathers g cs) n = gathered g (value_children p cs n [])
   value_constraint p (ties t c e) n = tied t (value_constraint p c n) (term_of (value_entry p (a_term p true) e).terms)
 
-  -- behind those before them
+  -- after those before them
   pub value_children : Problem → Children → ℕ → List Con → List Con
   value_children p (one_child c) n before = before ++ value_constraint p c (cells_behind n before) ∷ []
   value_children p (child_and c cs) n before = value_children p cs n (before ++ value_constraint p c (cells_behind n before) ∷ [])
@@ -183,7 +183,7 @@ with_constraint p c = record p { cons = p.cons ++ c ∷ [] }
 abbrev pub after_constraint : Problem → Constraint → Problem
 after_constraint p c = with_constraint p (value_constraint p c (cells_of p))
 
--- the section: constraints, and the head behind them
+-- the section: constraints, and the head after them
 abbrev pub spell_section : List Constraint → Head → List Terminal
 spell_section [] h = head_token h ∷ []
 spell_section (c ∷ cs) h = spell_constraint c ++ spell_section cs h
@@ -198,7 +198,7 @@ abbrev pub value_section : Problem → List Constraint → Problem
 value_section p [] = p
 value_section p (c ∷ cs) = value_section (after_constraint p c) cs
 
--- the language of the section, behind its head
+-- the language of the section, after its head
 abbrev pub constraints_spec : Problem → Spec (List Constraint × Head) (Problem × Head)
 constraints_spec p = record {
   spell = λ x. spell_section x.0 x.1;

@@ -48,7 +48,7 @@ range_at =
     then_read (mark_at MarksOnly Comma None) (λ u. then_read (number_at no_break) (λ b.
     then_read (mark_at MarksOnly CloseSquare None) (λ u. ret (a ∷ b ∷ []))))))
 
--- a tuple, behind the cells of those before it
+-- a tuple, after the cells of those before it
 unfoldable pub tuple_at : ℕ → ℕ → List ℤ → Reader (List ℤ)
 tuple_at used n cells =
     then_read (mark_at MarksOnly Less (at_tuple used n cells)) (λ u.
@@ -80,7 +80,7 @@ table_at p used n = then_read (one Free which_table (at_table p n)) (behind_tabl
 abbrev pub one_number : ℤ → Value
 one_number z = of_numbers (z ∷ [])
 
--- an argument, behind the values of those before it
+-- an argument, after the values of those before it
 unfoldable pub argument_at : Problem → ℕ → Argument → List Value → Reader Value
 argument_at p used takes.Term vs = then_read (entry_at p (a_term p false)) (λ v. ret (placed_value v))
 argument_at p used (takes.Vector w) vs = then_read (vector_at p (vector_wanted w vs)) (λ v. ret (placed_value v))
@@ -94,7 +94,7 @@ unfoldable pub leaf_at : Problem → ℕ → Leaf → Reader Con
 leaf_at p used f =
     then_read (mark_at MarksOnly OpenRound None) (λ u. then_read (row_at behind_argument (argument_at p used) (form_line f).takes) (λ vs. ret (meaning f vs)))
 
--- children one behind another, in the order of the text
+-- children one after another, in the order of the text
 abbrev pub child_ends : Ends (List Con) Con
 child_ends = record { next = λ cs c. cs ++ c ∷ []; comma = λ cs c. None; close = λ cs c. None }
 

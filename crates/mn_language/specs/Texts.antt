@@ -45,14 +45,14 @@ abbrev pub first_head : List Section → Head
 first_head [] = heads.End
 first_head (s ∷ ss) = head_before s
 
--- the entries of a section, and the head behind them
+-- the entries of a section, and the head after them
 abbrev pub spell_entries : Section → Head → List Terminal
 spell_entries (variables es) h = spell_declarations es h
 spell_entries (tuple_lists ls) h = spell_lists ls h
 spell_entries (search items) h = asks.spell_section items h
 spell_entries (constraints cs) h = constrains.spell_section cs h
 
--- sections, behind the head of the first
+-- sections, after the head of the first
 abbrev pub spell_sections : List Section → List Terminal
 spell_sections [] = []
 spell_sections (s ∷ ss) = spell_entries s (first_head ss) ++ spell_sections ss

@@ -17,7 +17,7 @@ use Rattle.mn_cursor.specs.declared.heads.Head.TheVariants.{Variables, TupleList
 use Rattle.mn_language.specs.Constructing.{constraints_at}
 use Rattle.mn_language.specs.Texts.{Stated, nothing_stated, asking, stated_by}
 
--- what is said so far, and the head behind it
+-- what is said so far, and the head after it
 pub record Place : Type 0 where
   pub said : Stated
   pub head : Head
@@ -31,7 +31,7 @@ with_asking r = record { said = stated_by r.0; head = r.1 }
 abbrev pub no_break : {W : Type 0} → W → Option Kind
 no_break w = None
 
--- a section behind its head, up to the head of the next; behind the head that ends the text there is nothing
+-- a section after its head, up to the head of the next; after the head that ends the text there is nothing
 unfoldable pub section_at : Stated → Head → Reader (Turn Place Problem)
 section_at s Variables = then_read (then_read (variables_at s.problem) (λ r. ret (with_problem s r))) (λ z. ret (goes_on z))
 section_at s TupleList = then_read (then_read (tuplelist_at s.problem) (λ r. ret (with_problem s r))) (λ z. ret (goes_on z))
@@ -42,7 +42,7 @@ section_at s End = ret (is_done s.problem)
 abbrev pub place_at : Place → Reader (Turn Place Problem)
 place_at z = section_at z.said z.head
 
--- sections behind the head of the first
+-- sections after the head of the first
 unfoldable pub behind_head : Stated → Head → Reader Problem
 behind_head s h = loop place_at (record { said = s; head = h })
 

@@ -90,7 +90,7 @@ pub enum Numbers {
     Any,
     /// Pairs.
     Pairs,
-    /// One for each place of the vector behind it.
+    /// One for each place of the vector after it.
     Weights,
     /// As many as the first argument has.
     Alike,

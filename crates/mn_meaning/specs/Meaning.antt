@@ -22,8 +22,8 @@ use Rattle.mn_model.specs.declared.declaration.Tuples.{Tuples}
 abbrev pub at : List ℤ → ℕ → ℤ
 at values i = slice_index_or values i (pos 0)
 
--- of the values at a constraint's places: those of a vector that comes first, that of the place behind it, that of the
--- one behind that, and those of all places behind it
+-- of the values at a constraint's places: those of a vector that comes first, that of the place after it, that of the
+-- one after that, and those of all places after it
 abbrev pub front : List Term → List ℤ → List ℤ
 front v a = take (length v) a
 

@@ -1,3 +1,4 @@
+//! Counting values: how often one stands, how many differ, how many places agree.
 ghost use Rattle.std.specs.Prelude.{◌≡◌, ◌↔◌, ℕ, pos, IsTrue};
 ghost use Rattle.mn_model.specs.Domain.{Has, IsValue};
 ghost use Rattle.mn_meaning.specs.Families.{occurrences, agreeing, differing, distinct_count, AllDiffer};

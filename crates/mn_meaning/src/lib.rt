@@ -13,8 +13,6 @@ mod meaning;
 mod orders;
 mod sets;
 mod sums;
-#[cfg(test)]
-mod tests;
 mod values;
 
 pub use laws::{
@@ -23,4 +21,5 @@ pub use laws::{
     solutions_are_those_that_hold, without_an_order,
 };
 pub use meaning::{checks, holds, holds_beside, holds_over};
+pub use sets::{in_intervals, is_between, is_in};
 pub use values::{Assigned, Values, value_at};

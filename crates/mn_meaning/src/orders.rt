@@ -1,3 +1,4 @@
+//! Values in order: the greatest, the least, an entry, lexicographic order.
 ghost use Rattle.std.specs.Prelude.{◌≡◌, ◌↔◌, ◌⊎◌, ℕ, IsTrue};
 ghost use Rattle.mn_model.specs.Domain.{IsValue};
 ghost use Rattle.mn_meaning.specs.Families.{IsGreatest, IsLeast, IsExtreme, IsWithin, IsEntry, IsBelow};

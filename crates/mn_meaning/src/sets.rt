@@ -1,3 +1,4 @@
+//! Values in sets, in intervals and in lists of tuples.
 ghost use Rattle.std.specs.Prelude.{◌≡◌, ◌↔◌, ℕ, ◌≤ℤ◌, IsTrue};
 ghost use Rattle.mn_model.specs.Domain.{Has, IsValue};
 ghost use Rattle.mn_model.specs.Members.{HasMember};

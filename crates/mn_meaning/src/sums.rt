@@ -1,3 +1,4 @@
+//! Sums, products, quotients and what is left.
 ghost use Rattle.std.specs.Prelude.{◌≡◌, ◌≢◌, ◌↔◌, ℕ, ◌+◌, ◌≤◌, ℤ, pos, neg_ℤ, ◌+ℤ◌, ◌-ℤ◌, ◌*ℤ◌, ◌≤ℤ◌, length, IsTrue};
 ghost use Rattle.std.proofs.Common.{nat_abs};
 ghost use Rattle.std.specs.List.{AllByRecursion};

@@ -1,3 +1,4 @@
+//! Assignments, and the value of a term.
 ghost use Rattle.std.specs.Prelude.{◌≡◌, ℕ, ℤ};
 ghost use Rattle.mn_model.specs.Domain.{IsValue};
 ghost use Rattle.mn_model.specs.Variable.{number_of};

@@ -44,7 +44,7 @@ abbrev pub AreNewAfter : {X : Type 0} → (X → List ℕ) → List X → List X
 AreNewAfter name_of earlier [] = Unit {0}
 AreNewAfter name_of earlier (x ∷ xs) = (called name_of earlier (name_of x) ≡ None) × AreNewAfter name_of (earlier ++ x ∷ []) xs
 
--- each begins with the number behind those of the declarations before it
+-- each begins with the number after those of the declarations before it
 abbrev pub AreNumberedFrom : ℕ → List Decl → Type 0
 AreNumberedFrom n [] = Unit {0}
 AreNumberedFrom n (d ∷ decls) = (number_of d.first ≡ n) × AreNumberedFrom (n + size_of_dims d.dims) decls

@@ -35,7 +35,7 @@ depth_of (Inside c) = suc (size-Con c.now)
 depth_of (InsideBefore c r) = suc (size-Con c.now)
 depth_of (Children cs) = suc (size-Cons cs.now)
 
--- the term at i, or else how far i is behind the last
+-- the term at i, or else how far i is after the last
 abbrev pub IsAt : List Term → ℕ → Result Term ℕ → Type 0
 IsAt terms i (Ok term) = slice_get terms i ≡ Some term
 IsAt terms i (Err left) = i ≡ length terms + left

@@ -42,7 +42,7 @@ variable_count decls = length (variables_of decls)
 abbrev pub domains_of : List Decl → List (List ℤ)
 domains_of decls = map (λ d. d.domain) (variables_of decls)
 
--- the place of an entry in a matrix, the last index running fastest, behind the places that the indices before it pass over
+-- the place of an entry in a matrix, the last index running fastest, after the places that the indices before it pass over
 abbrev pub offset_from : ℕ → List ℕ → List ℕ → Option ℕ
 offset_from passed [] [] = Some passed
 offset_from passed [] (sub ∷ subs) = None

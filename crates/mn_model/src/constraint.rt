@@ -1,3 +1,4 @@
+//! Terms, and the forms of constraints.
 use super::{Ints, Terms};
 use sqlite_items::Boxed;
 
@@ -98,7 +99,7 @@ pub enum Con {
     WInrange(Term, i64, i64),
     /// x is below k or above k2.
     WNotinrange(Term, i64, i64),
-    /// x is from the first to the second number of some pair of ks, whose numbers stand pair behind pair.
+    /// x is from the first to the second number of some pair of ks, whose numbers stand pair after pair.
     WInintervalset(Term, Ints),
     /// Holds always.
     Always,
@@ -121,7 +122,7 @@ pub enum Con {
 pub enum Cons {
     /// No more children.
     End,
-    /// The next child, and those behind it.
+    /// The next child, and those after it.
     More(Boxed<Con>, Boxed<Cons>),
 }
 

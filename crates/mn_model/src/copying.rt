@@ -1,3 +1,4 @@
+//! Copies of constraints.
 ghost use Rattle.std.specs.Prelude.{◌≡◌, IfOk};
 ghost use Rattle.mn_model.specs.Negation.{followed_by};
 ghost use Rattle.mn_model.specs.declared.constraint.Con.TheVariants.{End};
@@ -33,7 +34,7 @@ pub(crate) fn copy_of_each<T: Copies>(
     Ok(Sequence::of(copy_all(alloc, items.as_slice())?))
 }
 
-// A copy of a vector with what stands behind it, as one form.
+// A copy of a vector with what stands after it, as one form.
 pub(crate) fn with_one<A: Copy, F: FnOnce(Terms, A) -> Con>(
     make: F,
     v: &Terms,

@@ -1,3 +1,4 @@
+//! How many places and cells a constraint has.
 ghost use Rattle.std.specs.Prelude.{◌≡◌, ◌≤◌, length};
 ghost use Rattle.mn_model.specs.Parts.{cell_count, cell_count_of, cells_here};
 ghost use Rattle.mn_model.specs.declared.limits.TheConstants.{CELLS};

@@ -1,3 +1,4 @@
+//! What a model declares: matrices of variables, other names for them, and lists of tuples.
 use super::{Dims, Domain, Kind, Shared, Text, VarId, VarIds};
 
 /// A declaration of a variable or of a matrix of variables.

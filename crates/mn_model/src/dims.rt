@@ -1,3 +1,4 @@
+//! Dimensions of a matrix: how many entries they give, and where an entry stands.
 ghost use Rattle.std.specs.Prelude.{◌≡◌, ◌≤◌, ◌<◌, ◌^◌, IfSome};
 ghost use Rattle.std.specs.List.{AllByRecursion};
 ghost use Rattle.mn_model.specs.Problem.{offset_from, size_of_dims};

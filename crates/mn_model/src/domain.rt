@@ -1,3 +1,4 @@
+//! The values that a variable is declared with.
 ghost use Rattle.std.specs.Prelude.{◌≡◌, ◌<◌, ◌≤ℤ◌, ◌↔◌, IsTrue, [], length, slice_get, Some, IfOk};
 ghost use Rattle.std.specs.List.{AllByRecursion};
 ghost use Rattle.mn_model.specs.Domain.{Ascends, Has, IsDomain, IsFirst, IsLast, IsValue, stretch};

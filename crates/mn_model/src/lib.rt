@@ -24,8 +24,6 @@ mod refusal;
 mod search;
 mod sequence;
 mod shared;
-#[cfg(test)]
-mod tests;
 mod variable;
 
 pub use constraint::{Con, Cons, Tab, Term};

@@ -1,3 +1,4 @@
+//! The limits of a model.
 /// The greatest value or constant of a model; the least is its opposite.
 pub const VALUE: i64 = 1_000_000_000;
 

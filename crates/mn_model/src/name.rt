@@ -1,3 +1,4 @@
+//! What may be a name.
 ghost use Rattle.std.specs.Prelude.{◌≡◌, IfOk, string_bytes};
 ghost use Rattle.std.specs.List.{list_all};
 ghost use Rattle.mn_model.specs.Name.{begins_name, continues_name, is_name as is_a_name, IsName};

@@ -1,3 +1,4 @@
+//! The constraint that holds exactly where another does not.
 ghost use Rattle.std.specs.Prelude.{◌≡◌, IfOk, ◌++◌, ◌∷◌, [], pos, negsuc, replicate};
 ghost use Rattle.mn_model.specs.Lawful.{HasNearConstants, HaveNearConstants, IsNearTerm};
 ghost use Rattle.mn_model.specs.Negation.{negation, negations, more, negated, ones, reified, other, at_least_above, at_most_below};

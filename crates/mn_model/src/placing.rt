@@ -16,13 +16,13 @@ pub(crate) enum Layout<'a> {
     Three(Term, Term, Term),
     Vector(&'a Terms),
     Vectors(&'a Terms, &'a Terms),
-    /// A vector and the term behind it.
+    /// A vector and the term after it.
     Before(&'a Terms, Term),
-    /// A vector and the two terms behind it.
+    /// A vector and the two terms after it.
     BeforeTwo(&'a Terms, Term, Term),
     /// Those of the constraint inside.
     Inside(&'a Con),
-    /// Those of the constraint inside, and the term behind it.
+    /// Those of the constraint inside, and the term after it.
     InsideBefore(&'a Con, Term),
     /// Those of the children.
     Children(&'a Cons),
@@ -114,7 +114,7 @@ impl Con {
         self.place_or_left(i).unwrap()
     }
 
-    /// The place at `i`, or how far `i` is behind the last one.
+    /// The place at `i`, or how far `i` is after the last one.
     #[cycle(seeking)]
     fn place_or_left(&self, i: usize) -> Result<Term, usize>
         ensures { IsAt (places self.now) i result }
@@ -191,7 +191,7 @@ impl Cons {
         count
     }
 
-    /// The place at `i`, or how far `i` is behind the last one.
+    /// The place at `i`, or how far `i` is after the last one.
     #[cycle(seeking)]
     fn place_or_left(&self, i: usize) -> Result<Term, usize>
         ensures { IsAt (places_of self.now) i result }
@@ -222,7 +222,7 @@ impl Cons {
     }
 }
 
-// The term at `i`, or how far `i` is behind the last one.
+// The term at `i`, or how far `i` is after the last one.
 fn term_at(terms: &[Term], i: usize) -> Result<Term, usize>
     ensures { IsAt terms.now i result }
 {

@@ -1,3 +1,4 @@
+//! How a model is searched: orders, objective and what is printed.
 use super::{Flags, TermRows, VarId, VarIds};
 
 /// What VARORDER and VALORDER say: which variables come first, and in which direction their values are tried.

@@ -1,3 +1,4 @@
+//! Lists that contracts see as lists.
 ghost use Rattle.std.specs.Prelude.{◌≡◌, [], ◌∷◌, ◌++◌, ◌<◌, length, slice_get, Some, ◌↔◌, IsTrue, IfOk, OnOk, OnErr};
 
 use std::alloc::{AllocError, Global};

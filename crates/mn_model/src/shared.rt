@@ -1,3 +1,4 @@
+//! A value that several owners share.
 ghost use Rattle.std.specs.Prelude.{◌≡◌, ◌<◌, length, slice_get, Some, ◌↔◌, IsTrue, IfOk};
 
 use super::Ints;

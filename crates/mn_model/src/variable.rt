@@ -1,3 +1,4 @@
+//! Variables and their kinds.
 ghost use Rattle.std.specs.Prelude.{◌≡◌};
 ghost use Rattle.mn_model.specs.Variable.{number_of};
 

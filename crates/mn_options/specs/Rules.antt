@@ -38,13 +38,13 @@ asks_for option words = list_any (is_option option) words
 abbrev pub names_model : List Word → Bool
 names_model words = list_any is_model words
 
--- the rule that a word breaks behind those before it
+-- the rule that a word breaks after those before it
 abbrev pub broken_by : List Word → Word → Option Usage
 broken_by before Unlisted = Some (Unknown (length before))
 broken_by before (Listed option) = if asks_for option before then Some (Twice (length before)) else None
 broken_by before Model = if names_model before then Some (SecondModel (length before)) else None
 
--- the rule that words break first behind others: the first word that breaks one decides, and only where none does, that a model is named
+-- the rule that words break first after others: the first word that breaks one decides, and only where none does, that a model is named
 abbrev pub first_broken_behind : List Word → List Word → Option Usage
 first_broken_behind before [] = if names_model before then None else Some NoModel
 first_broken_behind before (word ∷ words) = option_or (broken_by before word) (first_broken_behind (before ++ word ∷ []) words)

@@ -6,11 +6,11 @@ use Rattle.mn_options.specs.declared.table.TheConstants.{TABLE}
 use Rattle.mn_options.specs.declared.words.Word.{Word}
 use Rattle.mn_options.specs.declared.words.Word.TheVariants.{Listed, Unlisted, Model}
 
--- the options, each behind the bytes of its word
+-- the options, each after the bytes of its word
 abbrev pub option_table : List (List ℕ × CommandOption)
 option_table = map (λ line. (line.0.now, line.1)) TABLE
 
--- the option that a table has behind this word
+-- the option that a table has after this word
 abbrev pub option_in : List (List ℕ × CommandOption) → List ℕ → Option CommandOption
 option_in [] word = None
 option_in (line ∷ lines) word = if bytes_eq line.0 word then Some line.1 else option_in lines word

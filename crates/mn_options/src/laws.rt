@@ -1,7 +1,7 @@
 //! Laws of the definitions. The functions do nothing.
 ghost use Rattle.mn_options.specs.Laws.{LawfulBreakNoRule, LinesAreDistinct, LinesAreFound};
 
-/// No word stands twice in the table, and each of its words is the option that stands behind it.
+/// No word stands twice in the table, and each of its words is the option that stands after it.
 pub fn table_is_unambiguous()
     ensures distinct { LinesAreDistinct }
     ensures found { LinesAreFound }

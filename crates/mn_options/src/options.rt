@@ -66,7 +66,7 @@ fn model_text(alloc: Global, words: &[String]) -> Result<Option<Text>, AllocErro
     }
 }
 
-/// What the words ask for, or the rule that they break first. The words are those behind the program's name.
+/// What the words ask for, or the rule that they break first. The words are those after the program's name.
 pub fn parse(alloc: Global, words: &Vec<String>) -> Result<Options, Usage>
     ensures ok { IfOk result (λ options. AreOptions (map string_bytes words.now.items) options) }
 

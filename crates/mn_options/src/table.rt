@@ -13,7 +13,7 @@ pub enum CommandOption {
     Redump,
 }
 
-/// The options, each behind its word.
+/// The options, each after its word.
 pub const TABLE: [(&str, CommandOption); 4] = [
     ("-findallsols", CommandOption::FindAllSols),
     ("-noprintsols", CommandOption::NoPrintSols),

@@ -9,7 +9,7 @@ use std::alloc::{AllocError, AllocFailed};
 pub enum Usage {
     /// A word in an option's place that begins with `-` and isn't in the table, or a word that isn't known in its place.
     Unknown(u64),
-    /// An option has too few words behind it.
+    /// An option has too few words after it.
     MissingValue(u64),
     /// A number is wanted, and the word isn't one that may stand here.
     BadNumber(u64),

@@ -14,7 +14,7 @@ pub record Written : Type 0 where
 unfoldable pub blank : Written
 blank = record { kept = []; count = 0 }
 
--- the page with these bytes behind those that it has: as many are kept as the limit leaves room for, and all are counted
+-- the page with these bytes after those that it has: as many are kept as the limit leaves room for, and all are counted
 unfoldable pub onto : Written → List ℕ → Written
 onto w bytes = record {
   kept = w.kept ++ take (TEXT_BYTES - length w.kept) bytes;

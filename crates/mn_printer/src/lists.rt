@@ -94,7 +94,7 @@ pub(crate) fn bracketed<T: Printed>(
     page.put(b"]")
 }
 
-/// A row of so many items, or of as many as there are, and what is behind it.
+/// A row of so many items, or of as many as there are, and what is after it.
 pub(crate) fn row_and_rest<T>(items: &[T], size: usize) -> (&[T], &[T])
     ensures row { result.0.now ≡ take size items.now }
     ensures rest { result.1.now ≡ drop size items.now }

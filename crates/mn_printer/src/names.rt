@@ -12,7 +12,7 @@ ghost use Rattle.mn_printer.specs.Pages.{onto};
 
 use crate::lists::{Printed, bracketed};
 use crate::page::Page;
-use mn_model::{Decl, Instance, Term, Terms, VARIABLES, VarId};
+use mn_model::{Decl, Instance, Term, Terms, VARIABLES, VarId, size_of};
 use std::alloc::AllocError;
 
 impl Printed for VarId {
@@ -166,17 +166,4 @@ fn further_indices(
         place %= size;
     }
     Ok(())
-}
-
-/// How many places a matrix has.
-pub(crate) fn size_of(dims: &[u32]) -> usize
-    requires shaped { AllByRecursion (λ dim. 1 ≤ dim) dims.now }
-    requires few { size_of_dims dims.now ≤ VARIABLES }
-    ensures { result ≡ size_of_dims dims.now }
-{
-    let mut size: usize = 1;
-    for dim in dims {
-        size *= *dim as usize;
-    }
-    size
 }

@@ -38,7 +38,7 @@ impl Page {
         }
     }
 
-    /// Writes bytes behind what stands there.
+    /// Writes bytes after what stands there.
     pub(crate) fn put(&mut self, bytes: &[u8]) -> Result<(), AllocError>
         ensures { OnOk result (self.new ≡ onto self.old bytes.now) }
     {

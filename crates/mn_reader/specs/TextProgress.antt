@@ -15,7 +15,7 @@ use Rattle.mn_language.specs.WholeTexts.{behind_head, sections_at}
 abbrev pub stated_of : Progress → Stated
 stated_of c = record { problem = c.problem; asked = c.asked }
 
--- The entries behind a head are read, up to the head of the next section; behind the head that ends the text nothing
+-- The entries after a head are read, up to the head of the next section; after the head that ends the text nothing
 -- is read; or they are refused as the reader says.
 abbrev pub ReadsEntries : Head → Progress → Progress → Result (Unit {0}) Refusal → Type 0
 ReadsEntries h old new (Err r) = IsTold old r (behind_head (stated_of old) h (rest old))
@@ -23,12 +23,12 @@ ReadsEntries End old new (Ok u) = behind_head (stated_of old) End (rest old) ≡
 ReadsEntries h old new (Ok u) =
     (behind_head (stated_of old) h (rest old) ≡ sections_at (stated_of new) (rest new)) × (length (rest new) ≤ length (rest old))
 
--- entries may stand behind a head, but for the one that ends the text
+-- entries may stand after a head, but for the one that ends the text
 abbrev pub has_entries : Head → Bool
 has_entries End = false
 has_entries h = true
 
--- A head and its section are read, and the text goes on behind them, or it ends behind the head; or it is refused there.
+-- A head and its section are read, and the text goes on after them, or it ends after the head; or it is refused there.
 abbrev pub ReadsOn : Progress → Progress → Result Bool Refusal → Type 0
 ReadsOn old new (Ok true) =
     (sections_at (stated_of old) (rest old) ≡ sections_at (stated_of new) (rest new)) × (length (rest new) < length (rest old))

@@ -63,7 +63,7 @@ fn head(c: &Cursor) -> Result<Head, Stop>
     Err(c.unwanted(Site::Fixed))
 }
 
-/// Whether entries may stand behind a head.
+/// Whether entries may stand after a head.
 fn has_entries(head: Head) -> bool
     ensures { result ≡ has_entries head }
 {
@@ -73,7 +73,7 @@ fn has_entries(head: Head) -> bool
     }
 }
 
-/// Reads the entries behind a head, up to the head of the next section.
+/// Reads the entries after a head, up to the head of the next section.
 #[tactic(auto, using(crate::proofs::TextSteps::same_text))]
 fn entries(c: &mut Cursor, head: Head) -> Result<(), Refusal>
     ensures same { SameText c.old c.new }
@@ -88,7 +88,7 @@ fn entries(c: &mut Cursor, head: Head) -> Result<(), Refusal>
     }
 }
 
-/// Reads a head and its section. False comes behind the head that ends the text.
+/// Reads a head and its section. False comes after the head that ends the text.
 fn section(c: &mut Cursor) -> Result<bool, Refusal>
     ensures same { SameText c.old c.new }
     ensures reads { ReadsOn c.old c.new result }

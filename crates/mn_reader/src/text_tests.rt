@@ -175,7 +175,7 @@ fn whole_texts(rt: HostRuntime) {
             "MINION 3 **VARIABLES** BOOL x **SEARCH** x **EOF**",
             Err(Refusal::Unsupported(41)),
         ),
-        // references, which end at a bracket or at what stands behind a bare matrix
+        // references, which end at a bracket or at what stands after a bare matrix
         (
             "MINION 3 **VARIABLES** BOOL m[2,3] **CONSTRAINTS** alldiff(m[-1,0]) **EOF**",
             Err(Refusal::Shape(61)),

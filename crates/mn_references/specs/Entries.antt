@@ -38,13 +38,13 @@ pub record Place : Type 0 where
   pub aim : Aim
 
 -- What an entry stands for: its terms; where it is a whole matrix without indices, the matrix's dimensions; and what
--- the token behind it breaks.
+-- the token after it breaks.
 pub record Placed : Type 0 where
   pub terms : List Term
   pub dims : List ℕ
   pub behind : Option Unfit
 
--- the terms of a reference, and the one of a variable behind `!`
+-- the terms of a reference, and the one of a variable after `!`
 abbrev pub placed : Found → Placed
 placed f = record { terms = map Var f.vars; dims = f.dims; behind = f.behind }
 
@@ -88,7 +88,7 @@ at_end_in p b n vars =
 abbrev pub in_list_aim : Problem → Bounds → ℕ → Aim
 in_list_aim p b n = record { slices = true; ends = λ full vars. at_end_in p b n vars }
 
--- what is wanted of an entry behind these terms; a first one that is too many breaks that at its first token
+-- what is wanted of an entry after these terms; a first one that is too many breaks that at its first token
 abbrev pub in_list : Problem → Bounds → List Term → Place
 in_list p b terms = record {
   first = when (leb b.most (length terms)) kinds.Shape;
@@ -96,11 +96,11 @@ in_list p b terms = record {
   aim = in_list_aim p b (length terms);
 }
 
--- At the `,` behind n places: the limit leaves one more, and one more is wanted.
+-- At the `,` after n places: the limit leaves one more, and one more is wanted.
 abbrev pub at_more : Bounds → ℕ → Option Kind
 at_more b n = lesser (when (leb PLACES n) (kinds.Limit limits.Vector)) (when (leb b.most n) kinds.Shape)
 
--- At the `]` behind n places: they are enough.
+-- At the `]` after n places: they are enough.
 abbrev pub at_enough : Bounds → ℕ → Option Kind
 at_enough b n = when (ltb n b.least) kinds.Shape
 
@@ -124,7 +124,7 @@ list_judge p b = record {
 abbrev pub listed_terms : List Term → Placed → List Term
 listed_terms terms v = terms ++ v.terms
 
--- a bracketed list behind its `[`: how it is spelled, what it breaks, and its terms
+-- a bracketed list after its `[`: how it is spelled, what it breaks, and its terms
 abbrev pub spell_list : Option (Items Entry) → List Terminal
 spell_list l = spell_maybe CloseSquare spell_entry l
 
@@ -197,7 +197,7 @@ abbrev pub rows_of : List ℕ → List Term → List (List Term)
 rows_of [] terms = terms ∷ []
 rows_of (dim ∷ dims) terms = parted (runs (dim ∷ dims)) (run (dim ∷ dims)) terms
 
--- rows, and what the token behind them breaks
+-- rows, and what the token after them breaks
 pub record Rows : Type 0 where
   pub rows : List (List Term)
   pub behind : Option Unfit

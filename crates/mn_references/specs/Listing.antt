@@ -13,7 +13,7 @@ use Rattle.mn_references.specs.declared.lists.Listed.{Listed}
 unfoldable pub ends_at : Mark → Option Kind → Option Kind → Reader Bool
 ends_at shut comma close = one MarksOnly (which_comma_or shut) (λ more. if more then comma else close)
 
--- behind an entry a list goes on in a state, or that is what it stands for
+-- after an entry a list goes on in a state, or that is what it stands for
 abbrev pub turn_of : {S : Type 0} → S → Bool → Turn S S
 turn_of s true = goes_on s
 turn_of s false = is_done s

@@ -67,7 +67,7 @@ pub record IsInside (i : Indices) : Type 0 where
 abbrev pub found_seen : Reference → Found
 found_seen r = record { vars = r.vars; dims = r.dims.now; behind = r.behind }
 
--- behind an index: there are more, or the reference is whole
+-- after an index: there are more, or the reference is whole
 abbrev pub subs_turn : Step → Turn Within Found
 subs_turn (On i) = goes_on (within_seen i)
 subs_turn (Done r) = is_done (found_seen r)
@@ -85,7 +85,7 @@ found_within l z = record { vars = map l.at z.places; dims = []; behind = None }
 abbrev pub ends_within : Aim → Lead → Within → Option Kind
 ends_within aim l z = as_kind (aim.ends z.full (map l.at z.places))
 
--- what stands behind an index that leads so far, by whether it has the last of the dimensions
+-- what stands after an index that leads so far, by whether it has the last of the dimensions
 unfoldable pub behind_index : Aim → Lead → Bool → Within → Reader (Turn Within Found)
 behind_index aim l last z =
     end_at CloseSquare (when last Shape) (if last then ends_within aim l z else Some Shape) z (found_within l z)

@@ -1,4 +1,4 @@
--- References: what a name and the indices behind it lead to, how they are spelled, and what they break.
+-- References: what a name and the indices after it lead to, how they are spelled, and what they break.
 use Rattle.std.specs.Prelude.{ℕ, ◌+◌, ◌*◌, ℤ, pos, negsuc, int_lt, ltb, Bool, true, false, not, ◌&&◌, ◌||◌, List, [], ◌∷◌, ◌++◌, length, map, Option, Some, None, unwrap_or, slice_get, if◌then◌else◌, codes}
 use Rattle.std.specs.List.{flat_map, list_all, range_with_len}
 use Rattle.std.specs.Ordering.{int_eq}
@@ -45,7 +45,7 @@ abbrev pub is_single : List ℕ → Bool
 is_single [] = true
 is_single (dim ∷ dims) = false
 
--- no dimension behind the first
+-- no dimension after the first
 abbrev pub is_last : List ℕ → Bool
 is_last [] = true
 is_last (dim ∷ dims) = is_single dims
@@ -119,7 +119,7 @@ pub record Aim : Type 0 where
   pub ends : Bool → List VarId → Option Unfit
 
 -- What a reference stands for: the variables that it names; where it is a whole matrix without indices, the matrix's
--- dimensions, and what its end breaks, which is the token behind it.
+-- dimensions, and what its end breaks, which is the token after it.
 pub record Found : Type 0 where
   pub vars : List VarId
   pub dims : List ℕ
@@ -147,7 +147,7 @@ index_kind slices dims each = when (not slices) kinds.Shape
 abbrev pub at_index : Aim → Within → Sub → Option Kind
 at_index aim w = index_kind aim.slices w.dims
 
--- At the `,` behind an index: there is a dimension for one more.
+-- At the `,` after an index: there is a dimension for one more.
 abbrev pub at_comma : Within → Sub → Option Kind
 at_comma w sub = when (is_last w.dims) kinds.Shape
 
@@ -174,7 +174,7 @@ found_bare aim l = record {
   behind = if is_single l.dims then None else aim.ends false (all_of l);
 }
 
--- what stands behind a name breaks, and what it stands for
+-- what stands after a name breaks, and what it stands for
 abbrev pub breaks_subs : Aim → Lead → Option (Items Sub) → List Break
 breaks_subs aim l None = []
 breaks_subs aim l (Some subs) = on (at_open l) ++ behind 1 (breaks_items (sub_judge aim l) subs (at_start l.dims))
@@ -224,6 +224,6 @@ as_wanted p want = record {
   ends = λ full vars. if ltb want.room (length vars) then Some Length else unfit (is_unwanted p want full vars) Form;
 }
 
--- Part of VARORDER, behind n variables: as many as the limit leaves.
+-- Part of VARORDER, after n variables: as many as the limit leaves.
 abbrev pub order_aim_behind : ℕ → Aim
 order_aim_behind n = record { slices = true; ends = λ full vars. unfit (ltb PLACES (n + length vars)) Length }

@@ -26,11 +26,11 @@ which_sub _ = None
 unfoldable pub sub_at : Aim → Within → Reader Sub
 sub_at aim w = one Free which_sub (at_index aim w)
 
--- the indices behind `[`
+-- the indices after `[`
 unfoldable pub subs_at : Aim → Lead → Reader Found
 subs_at aim l = items_at CloseSquare (sub_ends aim l) (found_at l) (sub_at aim) (at_start l.dims)
 
--- what stands behind a name
+-- what stands after a name
 unfoldable pub behind_name : Aim → Lead → Reader Found
 behind_name aim l = or_else (is_the_mark OpenSquare) (then_read (mark_at MarksOnly OpenSquare (at_open l)) (λ u. subs_at aim l)) (ret (found_bare aim l))
 
@@ -60,7 +60,7 @@ behind_entry p want (inr (inr u)) = then_read (ref_at p (one_place p true)) (λ 
 unfoldable pub entry_at : Problem → Place → Reader Placed
 entry_at p want = then_read (one Free which_entry (at_entry p want)) (behind_entry p want)
 
--- a bracketed list of entries, behind its `[`
+-- a bracketed list of entries, after its `[`
 unfoldable pub list_at : Problem → Bounds → Reader (List Term)
 list_at p b = maybe_at CloseSquare (list_ends b) (at_enough b 0) [] listed_terms (λ terms. entry_at p (in_list p b terms)) []
 

@@ -1,4 +1,4 @@
--- A reference, and the mark behind it.
+-- A reference, and the mark after it.
 use Rattle.std.specs.Prelude.{◌≡◌, ◌==◌, drop, codes, Bool, true, false, ◌&&◌, List, [], ◌∷◌, ◌++◌, length, Option, Some, None, Ok, Err, Result, if◌then◌else◌}
 use Rattle.mn_lexer.specs.Terminals.{Terminal, mark}
 use Rattle.mn_lexer.specs.declared.marks.Mark.{Mark}
@@ -28,7 +28,7 @@ may_follow want CloseRound = want.round
 may_follow want CloseSquare = want.square
 may_follow want _ = false
 
--- In a list in square brackets a `,` behind the last place that the limit leaves passes it, whatever else is broken.
+-- In a list in square brackets a `,` after the last place that the limit leaves passes it, whatever else is broken.
 abbrev pub passes : Want → Mark → List VarId → Bool
 passes want Comma vars = want.square && (length vars == want.room)
 passes want _ vars = false
@@ -37,7 +37,7 @@ abbrev pub ended : Want → List VarId → Mark → Option Unfit → Option Unfi
 ended want vars m None = None
 ended want vars m (Some u) = if passes want m vars then Some Length else Some u
 
--- At the mark behind a whole matrix without indices, which is its end.
+-- At the mark after a whole matrix without indices, which is its end.
 abbrev pub at_mark : Want → Found → Mark → Option Kind
 at_mark want f m = as_kind (ended want f.vars m f.behind)
 
@@ -82,7 +82,7 @@ unfoldable pub reference_then : Problem → Want → Reader (List VarId)
 reference_then p want =
     then_read (ref_at p (as_wanted p want)) (λ f. then_read (one MarksOnly (which_may_follow want) (at_mark want f)) (λ m. ret f.vars))
 
--- The reader answers the variables, and the cursor stands before the mark behind them.
+-- The reader answers the variables, and the cursor stands before the mark after them.
 abbrev pub IsReference : Want → Progress → List VarId → Answer (List VarId) → Type 0
 IsReference want new vars answer = (m : Mark) × (first_as (which_may_follow want) (rest new) ≡ Some m) × (answer ≡ Ok (vars, drop 1 (rest new)))
 

@@ -16,9 +16,9 @@ pub enum Aimed {
     Told(Want),
     /// A vector by itself.
     Whole(Bounds),
-    /// A part of a bracketed list, behind so many places.
+    /// A part of a bracketed list, after so many places.
     Part(Bounds, usize),
-    /// A part of VARORDER, behind so many variables.
+    /// A part of VARORDER, after so many variables.
     Ordered(usize),
 }
 

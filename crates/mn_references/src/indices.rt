@@ -54,7 +54,7 @@ pub struct Indices<'c> {
     pub size: usize,
 }
 
-// Adds the numbers behind `base`, so many of them.
+// Adds the numbers after `base`, so many of them.
 fn push_row(out: &mut Vec<usize>, base: usize, dim: usize) -> Result<(), AllocError>
     requires { base + dim < 2 ^ 64 }
     ensures { OnOk result (out.new.items ≡ out.old.items ++ map (λ i. base + i) (range_with_len 0 dim)) }

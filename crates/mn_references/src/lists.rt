@@ -21,13 +21,13 @@ use mn_lexer::Mark;
 use mn_model::{PLACES, Term, Terms, VarId};
 use std::alloc::{AllocError, Global};
 
-/// The terms of an entry or of a vector, one behind another in the order of the text.
+/// The terms of an entry or of a vector, one after another in the order of the text.
 #[derive(Debug, Drop)]
 pub struct Listed<'c> {
     pub terms: Terms,
     /// The dimensions of a whole matrix that is named without indices.
     pub dims: &'c [u32],
-    /// What the token behind it breaks, where that is its end.
+    /// What the token after it breaks, where that is its end.
     pub behind: Option<Unfit>,
 }
 
@@ -57,7 +57,7 @@ fn push_terms(terms: &mut Terms, placed: &Placed) -> Result<(), AllocError>
     }
 }
 
-// What the token behind an entry breaks, where that is its end.
+// What the token after an entry breaks, where that is its end.
 fn behind(placed: &Placed) -> Option<Unfit>
     ensures { result ≡ (placed_seen placed.now).behind }
 {
@@ -78,7 +78,7 @@ fn dims<'c>(placed: &Placed<'c>) -> &'c [u32]
     }
 }
 
-// Adds what an entry stands for. Answers what the token behind it breaks, where that is its end.
+// Adds what an entry stands for. Answers what the token after it breaks, where that is its end.
 fn push_placed(terms: &mut Terms, placed: Placed) -> Result<Option<Unfit>, AllocError>
     ensures added { OnOk result (terms.new ≡ terms.old ++ (placed_seen placed.entry).terms) }
     ensures behind { IfOk result (λ b. b ≡ (placed_seen placed.entry).behind) }
@@ -114,7 +114,7 @@ pub fn term<'c>(scan: &mut Scan<'c, '_>, bits: bool) -> Result<Listed<'c>, Stop>
     Ok(by_itself(scan.alloc(), &placed)?)
 }
 
-/// What is wanted of an entry behind these terms of a list.
+/// What is wanted of an entry after these terms of a list.
 pub fn in_list(bounds: Bounds, terms: &Terms) -> Placing
     ensures { (p : Problem) → place_seen p result ≡ in_list p bounds terms.now }
 {
@@ -130,7 +130,7 @@ pub fn in_list(bounds: Bounds, terms: &Terms) -> Placing
     }
 }
 
-// What the `,` behind so many places of a list breaks.
+// What the `,` after so many places of a list breaks.
 fn at_more(bounds: Bounds, count: usize) -> Option<Kind>
     ensures { result ≡ at_more bounds count }
 {
@@ -147,7 +147,7 @@ fn at_more(bounds: Bounds, count: usize) -> Option<Kind>
     lesser(passed, unwanted)
 }
 
-// What the `]` behind so many places of a list breaks.
+// What the `]` after so many places of a list breaks.
 fn at_enough(bounds: Bounds, count: usize) -> Option<Kind>
     ensures { result ≡ at_enough bounds count }
 {
@@ -158,7 +158,7 @@ fn at_enough(bounds: Bounds, count: usize) -> Option<Kind>
     }
 }
 
-// Reads an entry of a list and the mark behind it. Answers whether the list goes on.
+// Reads an entry of a list and the mark after it. Answers whether the list goes on.
 fn turn(scan: &mut Scan, bounds: Bounds, terms: &mut Terms) -> Result<bool, Stop>
     ensures moves { Moves scan.old scan.new }
     ensures gives { Gives (λ more. (turn_of terms.new more, rest scan.new)) result (turn_at CloseSquare (list_ends bounds) listed_terms (λ before. entry_at scan.old.problem (in_list scan.old.problem bounds before)) terms.old (rest scan.old)) }
@@ -185,7 +185,7 @@ fn entries(scan: &mut Scan, bounds: Bounds) -> Result<Terms, Stop>
     }
 }
 
-/// Reads a bracketed list of entries behind its `[`.
+/// Reads a bracketed list of entries after its `[`.
 #[tactic(auto, using(crate::proofs::ListTurns::shut_stops, crate::proofs::ListTurns::shut_reads, crate::proofs::ListTurns::opened), unfolding(crate::specs::Referring::list_at))]
 pub fn list(scan: &mut Scan, bounds: Bounds) -> Result<Terms, Stop>
     ensures moves { Moves scan.old scan.new }

@@ -1,6 +1,5 @@
 //! The variables of a declared name, found without a copy of them.
 ghost use Rattle.std.specs.Prelude.{◌≡◌, ◌<◌, ◌≤◌, IfSome};
-ghost use Rattle.std.specs.List.{AllByRecursion};
 ghost use Rattle.std.specs.Option.{option_map};
 ghost use Rattle.mn_model.specs.Variable.{number_of};
 ghost use Rattle.mn_model.specs.Name.{IsName};
@@ -10,7 +9,7 @@ ghost use Rattle.mn_references.specs.References.{lead_of};
 ghost use Rattle.mn_references.specs.Lookups.{at_source, lead_seen, IsFilled, IsLookup};
 
 use mn_cursor::str_of;
-use mn_model::{Instance, VarId, VarIds};
+use mn_model::{Instance, VarId, VarIds, size_of};
 
 /// Where the variables of a name are.
 #[derive(Debug, Clone, Copy)]
@@ -44,19 +43,6 @@ impl<'c> Lookup<'c> {
             Source::Listed(vars) => *vars.get(place),
         }
     }
-}
-
-// How many variables a matrix of these dimensions has.
-fn size_of(dims: &[u32]) -> usize
-    requires shaped { AllByRecursion (λ dim. 1 ≤ dim) dims.now }
-    requires few { size_of_dims dims.now ≤ VARIABLES }
-    ensures { result ≡ size_of_dims dims.now }
-{
-    let mut size: usize = 1;
-    for dim in dims {
-        size *= *dim as usize;
-    }
-    size
 }
 
 /// What a name leads to. None exactly where it isn't declared.

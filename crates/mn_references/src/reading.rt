@@ -41,7 +41,7 @@ fn sees_following(scan: &Scan, want: Want) -> Result<Mark, Stop>
     }
 }
 
-// What a mark breaks behind a reference.
+// What a mark breaks after a reference.
 fn mark_kind(want: Want, reference: &Reference, next: Mark) -> Option<Kind>
     ensures { result ≡ at_mark want (found_seen reference.now) next }
 {
@@ -53,7 +53,7 @@ fn mark_kind(want: Want, reference: &Reference, next: Mark) -> Option<Kind>
     kind_of(Some(if passes { Unfit::Length } else { unfit }))
 }
 
-// Reads a reference, up to the mark behind it.
+// Reads a reference, up to the mark after it.
 fn reference_before(scan: &mut Scan, want: Want) -> Result<VarIds, Stop>
     ensures moves { Moves scan.old scan.new }
     ensures ok { IfOk result (λ vars. IsReference want scan.new vars (reference_then scan.old.problem want (rest scan.old))) }
@@ -67,7 +67,7 @@ fn reference_before(scan: &mut Scan, want: Want) -> Result<VarIds, Stop>
     Ok(reference.vars)
 }
 
-/// Reads a reference, and looks at the mark behind it, which stays unread. Only the marks that are wanted may follow.
+/// Reads a reference, and looks at the mark after it, which stays unread. Only the marks that are wanted may follow.
 pub fn reference(c: &mut Cursor, want: Want) -> Result<VarIds, Refusal>
     ensures moves { Moves c.old c.new }
     ensures reads { ReadsReference want c.old c.new result (reference_then c.old.problem want (rest c.old)) }
@@ -84,7 +84,7 @@ pub fn reference(c: &mut Cursor, want: Want) -> Result<VarIds, Refusal>
     }
 }
 
-/// A law: the reader of a reference and the mark behind it is lawful for their language. So it answers exactly what they
+/// A law: the reader of a reference and the mark after it is lawful for their language. So it answers exactly what they
 /// stand for, and refuses all else at the right token and with the right kind.
 pub fn reference_law()
     ensures { (p : Problem) (want : Want) (m : Mark) (may : may_follow want m ≡ true) → Lawful (followed_spec p want m may) (reference_then p want) }

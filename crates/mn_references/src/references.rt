@@ -31,7 +31,7 @@ pub struct Reference<'c> {
     pub vars: VarIds,
     /// The dimensions of a whole matrix that is named without indices.
     pub dims: &'c [u32],
-    /// What the token behind it breaks, where that is its end.
+    /// What the token after it breaks, where that is its end.
     pub behind: Option<Unfit>,
 }
 
@@ -68,7 +68,7 @@ fn variables_at(alloc: Global, lookup: &Lookup, places: &[usize]) -> Result<VarI
     Ok(vars)
 }
 
-// Whether there is no dimension behind the first.
+// Whether there is no dimension after the first.
 fn is_last(dims: &[u32]) -> bool
     ensures { result ≡ is_last dims.now }
 {
@@ -78,7 +78,7 @@ fn is_last(dims: &[u32]) -> bool
     }
 }
 
-// Reads the `]` behind the indices of a reference, which is its end.
+// Reads the `]` after the indices of a reference, which is its end.
 fn close<'c>(
     scan: &mut Scan<'c, '_>,
     lookup: &Lookup<'c>,
@@ -105,7 +105,7 @@ fn close<'c>(
     })
 }
 
-// What stands behind an index.
+// What stands after an index.
 #[tactic(auto, using(crate::proofs::Ending::end_stops, crate::proofs::Ending::comma_stops, crate::proofs::Ending::comma_reads, crate::proofs::Ending::close_stops, crate::proofs::Ending::close_reads), unfolding(crate::specs::Lookups::behind_index))]
 fn behind_index<'c>(
     scan: &mut Scan<'c, '_>,
@@ -134,7 +134,7 @@ fn behind_index<'c>(
     Ok(Step::Done(reference))
 }
 
-// One index, and what stands behind it.
+// One index, and what stands after it.
 #[tactic(auto, using(mn_cursor::proofs::Turning::stops_first, mn_cursor::proofs::Turning::stops_second), unfolding(crate::specs::Referring::sub_at))]
 fn turn<'c>(
     scan: &mut Scan<'c, '_>,
@@ -156,7 +156,7 @@ fn turn<'c>(
     behind_index(scan, lookup, aim, last, next)
 }
 
-// The indices of a reference, behind the `[`.
+// The indices of a reference, after the `[`.
 fn indices<'c>(
     scan: &mut Scan<'c, '_>,
     lookup: &Lookup<'c>,
@@ -218,7 +218,7 @@ fn bare<'c>(
     })
 }
 
-/// What stands behind a name.
+/// What stands after a name.
 #[tactic(auto, using(crate::proofs::Stepping::opens_then, crate::proofs::Stepping::opens_not))]
 pub fn behind_name<'c>(
     scan: &mut Scan<'c, '_>,

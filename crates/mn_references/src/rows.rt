@@ -22,7 +22,7 @@ use std::alloc::{AllocError, Global};
 #[derive(Debug, Drop)]
 pub struct Rows {
     pub rows: TermRows,
-    /// What the token behind them breaks, where that is their end.
+    /// What the token after them breaks, where that is their end.
     pub behind: Option<Unfit>,
 }
 

@@ -266,7 +266,7 @@ impl<'c, 'a> Scan<'c, 'a> {
         Ok(index)
     }
 
-    /// What stands behind an entry of a list: whether it is `,`, and else it is the mark that closes the list.
+    /// What stands after an entry of a list: whether it is `,`, and else it is the mark that closes the list.
     pub fn sees_end(&self, shut: Mark) -> Result<bool, Stop>
         ensures sees { Sees MarksOnly (which_comma_or shut) (λ b. b) (rest self.now) result }
         ensures there { IfOk result (λ _. 0 < self.now.left) }

@@ -1,4 +1,4 @@
--- The lines behind the blocks, and those that tell of a fault.
+-- The lines after the blocks, and those that tell of a fault.
 use Rattle.std.specs.Prelude.{ℕ, List, [], ◌++◌, codes, decimal}
 use Rattle.mn_model.specs.declared.refusal.Refusal.{Refusal}
 use Rattle.mn_model.specs.declared.refusal.Refusal.TheVariants.{Lex, NumberRange, Syntax, Name, Shape, EmptyDomain, Limit, Unsupported, NoMemory}

@@ -1,4 +1,4 @@
-//! The printed texts: the block of a solution, the summary behind all blocks, and the lines that tell of a fault.
+//! The printed texts: the block of a solution, the summary after all blocks, and the lines that tell of a fault.
 //!
 //! Each call answers exactly the text of its definition in `specs/`, or that memory ran out. Lines that never change are
 //! constants. Numbers are printed by `itoa`.
@@ -9,8 +9,6 @@
 
 mod blocks;
 mod lines;
-#[cfg(test)]
-mod tests;
 
 pub use blocks::{block, write_block};
 pub use lines::{

@@ -35,7 +35,7 @@ fn outcome_name(outcome: Outcome) -> &'static str
     }
 }
 
-/// What stands behind all blocks.
+/// What stands after all blocks.
 pub fn summary(
     alloc: Global,
     solutions: u64,

@@ -112,7 +112,7 @@ target_of p (dim ∷ dims) vars = declaring.of_matrix (items_from (pos dim) (map
 abbrev pub naming_of : Problem → Alias → declaring.Naming
 naming_of p a = record { name = name_from a.name; target = target_of p a.dims a.vars }
 
--- the section of variables: declarations, and aliases behind them
+-- the section of variables: declarations, and aliases after them
 abbrev pub variables_of : Problem → List declaring.Entry
 variables_of p = map (λ d. declaring.declares (declaration_of d)) p.decls ++ map (λ a. declaring.names (naming_of p a)) p.aliases
 
