@@ -4,6 +4,7 @@ pub mod Marks
 pub mod Members
 pub mod Parting
 pub mod Quiet
+pub mod Spans
 pub mod Totals
 pub mod Windows
 pub mod Words

@@ -1,5 +1,5 @@
 //! Bits in a row of words: bit `i` is bit `i % 64` of word `i / 64`.
-ghost use Rattle.std.specs.Prelude.{◌≡◌, ◌≢◌, ℕ, ◌+◌, ◌-◌, ◌*◌, ◌^◌, ◌<◌, ◌≤◌, ◌==◌, true, false, length, slice_index, nat_le, ◌&&◌};
+ghost use Rattle.std.specs.Prelude.{◌≡◌, ◌≢◌, ℕ, ◌+◌, ◌-◌, ◌*◌, ◌^◌, ◌<◌, ◌≤◌, ◌==◌, true, false, length, slice_index, slice_set, nat_le, ◌&&◌, ◌||◌, bit_or, ◌/◌, ◌%◌};
 ghost use Rattle.mn_boxes.specs.Bits.{bit_of, cleared, count_from, marked_at, word_bit};
 
 /// How many bits a word has.
@@ -147,4 +147,45 @@ pub fn run(first: usize, last: usize) -> u64
     ensures { (t : ℕ) → t < 64 → word_bit result t ≡ (nat_le first t && nat_le t last) }
 {
     (u64::MAX >> (WIDTH - 1 - last)) & (u64::MAX << first)
+}
+
+/// The bits, in one word, of those from `from` to `to`.
+pub fn run_in(word: usize, from: usize, to: usize) -> u64
+    requires order { from ≤ to }
+    requires low { from / 64 ≤ word }
+    requires high { word ≤ to / 64 }
+    ensures { (i : ℕ) → i / 64 ≡ word → word_bit result (i % 64) ≡ (nat_le from i && nat_le i to) }
+{
+    let first = if word == from / WIDTH {
+        from % WIDTH
+    } else {
+        0
+    };
+    let last = if word == to / WIDTH {
+        to % WIDTH
+    } else {
+        WIDTH - 1
+    };
+    run(first, last)
+}
+
+/// Sets these bits of a word.
+fn set_in(words: &mut Vec<u64>, word: usize, more: u64)
+    requires { word < length words.old.items }
+    ensures { words.new.items ≡ slice_set words.old.items word (bit_or (slice_index words.old.items word) more) }
+{
+    words[word] |= more;
+}
+
+/// Sets the bits from `from` to `to`.
+pub fn mark_span(words: &mut Vec<u64>, from: usize, to: usize)
+    requires order { from ≤ to }
+    requires room { to < 64 * length words.old.items }
+    ensures count { length words.new.items ≡ length words.old.items }
+    ensures bits { (i : ℕ) → bit_of words.new.items i ≡ ((nat_le from i && nat_le i to) || bit_of words.old.items i) }
+{
+    for word in from / WIDTH..to / WIDTH + 1 {
+        let more = run_in(word, from, to);
+        set_in(words, word, more);
+    }
 }

@@ -1,5 +1,5 @@
 //! Sets of values by words.
-ghost use Rattle.std.specs.Prelude.{◌≡◌, ◌+◌, ◌-◌, ◌*◌, ◌/◌, ◌%◌, ◌^◌, ◌<◌, ◌≤◌, ℤ, ◌≤ℤ◌, false, not, ◌&&◌, ◌||◌, IfOk, length, replicate};
+ghost use Rattle.std.specs.Prelude.{◌≡◌, ◌+◌, ◌-◌, ◌*◌, ◌/◌, ◌%◌, ◌^◌, ◌<◌, ◌≤◌, ℤ, ◌≤ℤ◌, int_le, false, not, ◌&&◌, ◌||◌, IfOk, length, replicate};
 ghost use Rattle.std.specs.Int.{int_gap};
 ghost use Rattle.std.specs.Ordering.{int_eq};
 ghost use Rattle.mn_model.specs.Domain.{IsValue};
@@ -100,6 +100,19 @@ impl ValueSet {
     {
         let bit = bit_number(self.low, a);
         bits::mark(&mut self.words, bit);
+    }
+
+    /// Puts the values from `lo` to `hi` into the set.
+    pub fn insert_span(&mut self, lo: i64, hi: i64)
+        requires order { lo ≤ℤ hi }
+        requires low { IsCovered self.old lo }
+        requires high { IsCovered self.old hi }
+        ensures wide { IsAsWide self.old self.new }
+        ensures members { (x : ℤ) → members self.new x ≡ ((int_le lo x && int_le x hi) || members self.old x) }
+    {
+        let from = bit_number(self.low, lo);
+        let to = bit_number(self.low, hi);
+        bits::mark_span(&mut self.words, from, to);
     }
 
     /// Takes `a` out of the set.
