@@ -8,6 +8,7 @@ pub mod Narrowing
 pub mod PlaceLemmas
 pub mod Ready
 pub mod Revisions
+pub mod Sifting
 pub mod Stepping
 pub mod Tried
 pub mod Trying

@@ -4,4 +4,5 @@ pub mod Losses
 pub mod Passes
 pub mod Posts
 pub mod Revising
+pub mod Sifting
 pub mod Trials

@@ -1,13 +1,15 @@
 //! The context in which propagators work.
-ghost use Rattle.std.specs.Prelude.{◌≡◌, ◌↔◌, IfOk, IsTrue, OnErr, OnOk, false, int_le};
+ghost use Rattle.std.specs.Prelude.{◌≡◌, ◌↔◌, ◌⊎◌, ℤ, IfOk, IsTrue, OnErr, OnOk, false, int_le, not};
 ghost use Rattle.std.specs.Ordering.{int_eq};
 ghost use Rattle.mn_boxes.specs.Boxes.{declared_variables};
 ghost use Rattle.mn_domains.specs.Changes.{is_not};
 ghost use Rattle.mn_domains.specs.Sets.{AreBoxes};
 ghost use Rattle.mn_boxes.specs.Places.{IsPlaceEnd, PlaceHas};
+ghost use Rattle.mn_boxes.specs.Values.{IsAsWide, IsCovered, members};
+ghost use Rattle.mn_model.specs.Lawful.{IsLawfulTerm};
 ghost use Rattle.mn_prop.specs.Contexts.{IsAnswer, IsAnswerIf, IsTurned};
 
-use mn_boxes::Moved;
+use mn_boxes::{Moved, ValueSet};
 use mn_domains::{Doms, Emptied};
 use mn_model::{Instance, Term, VarId};
 use std::alloc::AllocError;
@@ -68,9 +70,11 @@ fn answer_if(stays: bool) -> Result<(), Fail>
 
 impl Ctx {
     ghost use Rattle.mn_closure.specs.Closed.{IsAlone};
+    ghost use Rattle.mn_closure.specs.Ready.{declared_sets};
     ghost use Rattle.mn_closure.specs.Supports.{IsOpen};
     ghost use Rattle.mn_domains.specs.Changes.{Restored, saved_now};
-    ghost use Rattle.mn_prop.specs.Contexts.{AreValued, ChangedAt, IsGreatestAt, IsLeastAt, IsNamed, IsNextAt, MayGoAt, box_of, place_hi, place_lo, vars_of};
+    ghost use Rattle.mn_prop.specs.Contexts.{AreValued, ChangedAt, IsGreatestAt, IsLeastAt, IsNamed, IsNextAt, MayGoAt, SomePasses, box_of, place_hi, place_lo, vars_of};
+    ghost use Rattle.mn_prop.specs.Sifting.{HasBits, IsSifted, bits_test};
 
     /// Takes the sets of the instance's variables.
     pub fn build(inst: &Instance, doms: Doms) -> Result<Ctx, AllocError>
@@ -258,6 +262,99 @@ impl Ctx {
             Term::Var(v) => answer(self.doms.remove(v, a), &self.doms, &mut self.moved),
             Term::Const(k) => answer_if(k != a),
             Term::Not(v) => answer(self.doms.remove(v, turned(a)), &self.doms, &mut self.moved),
+        }
+    }
+
+    /// Whether a value of the place is in the set.
+    pub fn meets(&self, t: Term, values: &ValueSet) -> bool
+        requires { IsLawfulTerm (declared_sets (vars_of self.now)) t }
+        ensures { IsTrue result ↔ SomePasses (members values.now) t (box_of self.now) }
+    {
+        self.doms.lawful();
+        match t {
+            Term::Var(v) => self.doms.meets(v, values),
+            Term::Const(k) => values.has(k),
+            Term::Not(_) => self.has_bit_in(t, values, 0) || self.has_bit_in(t, values, 1),
+        }
+    }
+
+    // Whether the value is one of the place and of the set.
+    fn has_bit_in(&self, t: Term, values: &ValueSet, bit: i64) -> bool
+        requires { IsNamed (vars_of self.now) t }
+        ensures { IsTrue result ↔ (PlaceHas (box_of self.now) t bit × IsTrue (members values.now bit)) }
+    {
+        self.has(t, bit) && values.has(bit)
+    }
+
+    /// Puts the values of the place into the set.
+    pub fn gather(&self, t: Term, into: &mut ValueSet)
+        requires lawful { IsLawfulTerm (declared_sets (vars_of self.now)) t }
+        requires covered { (a : ℤ) → PlaceHas (box_of self.now) t a → IsCovered into.old a }
+        ensures wide { IsAsWide into.old into.new }
+        ensures members { (a : ℤ) → IsTrue (members into.new a) ↔ (IsTrue (members into.old a) ⊎ PlaceHas (box_of self.now) t a) }
+    {
+        self.doms.lawful();
+        match t {
+            Term::Var(v) => self.doms.gather(v, into),
+            Term::Const(k) => into.insert(k),
+            Term::Not(_) => self.gather_bits(t, into),
+        }
+    }
+
+    // The same of one less a variable, which is 0 or 1.
+    fn gather_bits(&self, t: Term, into: &mut ValueSet)
+        requires named { IsNamed (vars_of self.now) t }
+        requires bits { HasBits t (box_of self.now) }
+        requires covered { (a : ℤ) → PlaceHas (box_of self.now) t a → IsCovered into.old a }
+        ensures wide { IsAsWide into.old into.new }
+        ensures members { (a : ℤ) → IsTrue (members into.new a) ↔ (IsTrue (members into.old a) ⊎ PlaceHas (box_of self.now) t a) }
+    {
+        if self.has(t, 0) {
+            into.insert(0);
+        }
+        if self.has(t, 1) {
+            into.insert(1);
+        }
+    }
+
+    /// Keeps the values of the set. Where values go at the ends alone, those from the least to the greatest of them.
+    pub fn keep(&mut self, t: Term, values: &ValueSet) -> Result<(), Fail>
+        requires { IsLawfulTerm (declared_sets (vars_of self.old)) t }
+        ensures { IsSifted (members values.now) t self.old self.new result }
+    {
+        self.doms.lawful();
+        match t {
+            Term::Var(v) => answer(self.doms.keep(v, values), &self.doms, &mut self.moved),
+            Term::Const(k) => answer_if(values.has(k)),
+            Term::Not(_) => self.keep_bits(t, values.has(0), values.has(1)),
+        }
+    }
+
+    /// Takes the values of the set out. Where values go at the ends alone, as far as the first that isn't in it and from the
+    /// last.
+    pub fn exclude(&mut self, t: Term, values: &ValueSet) -> Result<(), Fail>
+        requires { IsLawfulTerm (declared_sets (vars_of self.old)) t }
+        ensures { IsSifted (λ a. not (members values.now a)) t self.old self.new result }
+    {
+        self.doms.lawful();
+        match t {
+            Term::Var(v) => answer(self.doms.exclude(v, values), &self.doms, &mut self.moved),
+            Term::Const(k) => answer_if(!values.has(k)),
+            Term::Not(_) => self.keep_bits(t, !values.has(0), !values.has(1)),
+        }
+    }
+
+    // Keeps 0 and 1, or one of them, at a place that has no other values.
+    fn keep_bits(&mut self, t: Term, zero: bool, one: bool) -> Result<(), Fail>
+        requires named { IsNamed (vars_of self.old) t }
+        requires bits { HasBits t (box_of self.old) }
+        ensures { IsSifted (bits_test zero one) t self.old self.new result }
+    {
+        match (zero, one) {
+            (true, true) => self.set_lo(t, 0),
+            (true, false) => self.set_hi(t, 0),
+            (false, true) => self.set_lo(t, 1),
+            (false, false) => Err(Fail),
         }
     }
 
