@@ -247,6 +247,10 @@ module _ (e : Bool) (v w : List Term) (lists : List Tuples) where
       pub cut_fails : {new : Context} {fail : Fail} {end : Result (Unit {0}) Fail} → IsStep (IsOut x y most least) (IsCut x y most least) now new (Err fail) → IsErr end → IsStep (Unsupported (beside lists (in_order e v w))) (LeafClosed (vars_of old) lists (in_order e v w)) old new end
       cut_fails step err = goes_wrong to.going less_closed (cut_rule now n x y box_now ready_now at_x at_y to.same most least bounds step) err
 
+    -- a pair that has one value already
+    pub one_passed : (x y : Term) → slice_get v n ≡ Some x → slice_get w n ≡ Some y → AreOne (box_of now) x y → OrderedTo old now (n + 1)
+    one_passed x y at_x at_y one = record { going = to.going; same = one_more (box_of now) n v w x y to.same at_x at_y one }
+
     -- all pairs have one value
     all_one : length v ≤ n → AreOneWhere (λ j. Unit {0}) (box_of now) v w
     all_one past j x y here at_x at_y = to.same j x y (let within = slice_get_within v j x at_x in omega (arith, within, past)) at_x at_y

@@ -7,7 +7,7 @@ ghost use Rattle.mn_prop.specs.Posts.{ClosedUnderLeaf, IsReadyToRun};
 ghost use Rattle.mn_lex.specs.Leading.{Leads};
 ghost use Rattle.mn_lex.specs.Orders.{AreOneWhere, IsLessAt, greatest_values, least_values};
 
-use crate::pair::cut_pair;
+use crate::pair::{are_one, cut_pair};
 use mn_model::{Instance, Term, Terms};
 use mn_prop::{Ctx, Fail, Scoped};
 
@@ -23,8 +23,8 @@ pub struct Lexical<'a> {
 impl Lexical<'_> {
     ghost use Rattle.mn_lex.specs.Lexicals.{lexical_of};
 
-    /// Goes through the pairs of places from the front, as long as the two can't be in order but by being equal: that leaves
-    /// them one value, or fails. The first other pair is cut, and with it the box is closed.
+    /// Goes through the pairs of places from the front, as long as the first place can't be less than the second: they are left
+    /// with one value, the same, or it fails. The first other pair decides, and is cut.
     pub(crate) fn filter(&self, c: &mut Ctx) -> Result<(), Fail>
         requires { IsReadyToRun (vars_of c.old) (lexical_of self.now) }
         ensures { IsStep (Unsupported (lexical_of self.now)) (ClosedUnderLeaf (vars_of c.old) (lexical_of self.now)) c.old c.new result }
@@ -32,18 +32,21 @@ impl Lexical<'_> {
         c.lawful();
         for i in 0..self.v.len() {
             let (x, y) = (*self.v.get(i), *self.w.get(i));
-            let least = c.lo(x);
-            let most = c.hi(y);
-            if least < most {
+            let low = c.lo(x);
+            let high = c.hi(y);
+            if low < high {
                 return self.cut(c, i);
             }
-            cut_pair(c, x, y, most, least)?;
+            if are_one(c, x, y) {
+                continue;
+            }
+            cut_pair(c, x, y, high, low)?;
         }
         if self.or_equal { Ok(()) } else { Err(Fail) }
     }
 
-    // Cuts the pair of place `i`, the first that isn't one value: to less and equal values where what stands behind can be in
-    // order, and else to less ones.
+    // Cuts the pair of place `i`, where the first place can be less than the second: equal values stay where what stands behind
+    // can be in order.
     fn cut(&self, c: &mut Ctx, i: usize) -> Result<(), Fail>
         requires ready { IsReadyToRun (vars_of c.old) (lexical_of self.now) }
         requires within { i < length self.now.v.now }
@@ -62,7 +65,8 @@ impl Lexical<'_> {
         }
     }
 
-    // Whether the places from `from` on have values that are in order: then their best ones are.
+    // Whether the places from `from` on have values that are in order. That is told by the least values of the first vector and
+    // the greatest of the second, at the first place where they differ.
     fn rest_leads(&self, c: &Ctx, from: usize) -> bool
         requires ready { IsReadyToRun (vars_of c.now) (lexical_of self.now) }
         requires within { from ≤ length self.now.v.now }
