@@ -1,5 +1,5 @@
 -- Two vectors that are kept apart.
-use Rattle.std.proofs.Common.{◌≡◌, ◌≢◌, ℕ, zero, suc, ◌+◌, ◌<◌, ◌≤◌, ℤ, pos, ◌⊎◌, inl, inr, List, [], ◌∷◌, ◌++◌, length, slice_get, slice_index_or, Some, Result, Ok, Err, OnOk, refl, sym, subst, ap, ◌∙◌, arith}
+use Rattle.std.proofs.Common.{◌≡◌, ◌≢◌, ℕ, ◌+◌, ◌<◌, ◌≤◌, ℤ, pos, inl, inr, List, [], ◌∷◌, ◌++◌, length, slice_get, slice_index_or, Some, Result, Ok, Err, OnOk, refl, sym, subst, ap, ◌∙◌, arith}
 use Rattle.std.proofs.lemmas.Option.{slice_get_within}
 use Rattle.mn_model.specs.Decided.{Decided, decide_int, decide_nat}
 use Rattle.mn_model.proofs.Lists.{some_there}
@@ -21,7 +21,7 @@ use Rattle.mn_prop.specs.declared.context.Fail.{Fail}
 use Rattle.mn_prop.proofs.Ended.{least_of}
 use Rattle.mn_prop.proofs.Stepping.{as_step, box_again, by_rule, failing, goes_inside, same_vars}
 use Rattle.mn_lex.specs.Leading.{Differ}
-use Rattle.mn_lex.specs.Orders.{AreOne, AreOneWhere, CanDiffer}
+use Rattle.mn_lex.specs.Orders.{AreOneWhere, CanDiffer}
 use Rattle.mn_lex.specs.Pairs.{EachAsked, IsOpenPair, ThatAt}
 use Rattle.mn_lex.proofs.Chosen.{chosen_there}
 use Rattle.mn_lex.proofs.Differing.{differ_at, differ_there, none_differ, with_both}
@@ -29,46 +29,9 @@ use Rattle.mn_lex.proofs.Leaders.{some_is}
 use Rattle.mn_lex.proofs.Ordered.{one_inside}
 use Rattle.mn_lex.proofs.Vectors.{VectorsWith, apart_is, closed_first, closed_second, closed_some, closed_vectors, first_at, first_ends, first_named, first_stands, second_at, second_ends, second_named, second_stands, supported_first, supported_second}
 
--- ---- the next open pair
-
-pub one_more_one : (box : List (List ℤ)) (from i : ℕ) (v w : List Term) (x y : Term) → AreOneWhere (λ j. (from ≤ j) × (j < i)) box v w → slice_get v i ≡ Some x → slice_get w i ≡ Some y → AreOne box x y → AreOneWhere (λ j. (from ≤ j) × (j < i + 1)) box v w
-one_more_one box from i v w x y same at_x at_y one j t s less at_t at_s = by (decide_nat j i)
-  where
-    by : Decided (j ≡ i) → AreOne box t s
-    by (inl here) =
-        let its : t ≡ x = some_is (sym at_t ∙ (ap (slice_get v) here ∙ at_x)) in
-        let theirs : s ≡ y = some_is (sym at_s ∙ (ap (slice_get w) here ∙ at_y)) in
-        λ a b has had. one a b (subst (λ u. PlaceHas box u a) its has) (subst (λ u. PlaceHas box u b) theirs had)
-    by (inr before) = same j t s (less.0, let last = less.1 in omega (arith, last, before)) at_t at_s
-
-pub found_open : (box : List (List ℤ)) (from i : ℕ) (v w : List Term) (x y : Term) → from ≤ i → AreOneWhere (λ j. (from ≤ j) × (j < i)) box v w → slice_get v i ≡ Some x → slice_get w i ≡ Some y → CanDiffer box x y → IsOpenPair from i box v w
-found_open box from i v w x y behind same at_x at_y can = record {
-  behind = behind;
-  within = slice_get_within v i x at_x;
-  before = same;
-  differ = λ t s at_t at_s. subst (CanDiffer box t) (some_is (sym at_y ∙ at_s)) (subst (λ u. CanDiffer box u y) (some_is (sym at_x ∙ at_t)) can);
-}
-
+-- none is open from i on
 pub none_open : (box : List (List ℤ)) (from i : ℕ) (v w : List Term) → length v ≤ i → AreOneWhere (λ j. (from ≤ j) × (j < i)) box v w → AreOneWhere (λ j. from ≤ j) box v w
 none_open box from i v w past same j x y behind at_x at_y = same j x y (behind, let within = slice_get_within v j x at_x in omega (arith, within, past)) at_x at_y
-
-less_or : (j i : ℕ) → (j < i) ⊎ (i ≤ j)
-less_or zero zero = inr (omega arith)
-less_or zero (suc i) = inl (omega arith)
-less_or (suc j) zero = inr (omega arith)
-less_or (suc j) (suc i) = by (less_or j i)
-  where
-    by : (j < i) ⊎ (i ≤ j) → (suc j < suc i) ⊎ (suc i ≤ suc j)
-    by (inl less) = inl (omega (arith, less))
-    by (inr ge) = inr (omega (arith, ge))
-
--- all pairs but i have one value
-pub others_one : (box : List (List ℤ)) (i : ℕ) (v w : List Term) → IsOpenPair 0 i box v w → AreOneWhere (λ j. i + 1 ≤ j) box v w → AreOneWhere (λ j. j ≢ i) box v w
-others_one box i v w first later j x y other at_x at_y = by (less_or j i)
-  where
-    by : (j < i) ⊎ (i ≤ j) → AreOne box x y
-    by (inl less) = first.before j x y (omega arith, less) at_x at_y
-    by (inr ge) = later j x y (omega (arith, ge, other)) at_x at_y
 
 module _ (v w : List Term) (lists : List Tuples) where
   -- no pair is open

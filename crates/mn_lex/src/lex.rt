@@ -21,7 +21,7 @@ pub enum LexCon<'a> {
 }
 
 impl<'a> LexCon<'a> {
-    /// What narrows the constraint, beside the tuple lists of the instance.
+    /// What narrows the constraint, beside the tuple lists of the instance. It borrows the vectors, and takes no memory.
     pub fn build(inst: &'a Instance, con: &'a Con) -> LexCon<'a>
         requires { IsOfVectors con.now }
         ensures { posted_of result ≡ beside inst.now.tuples con.now }
