@@ -1,0 +1,4 @@
+pub mod Leading
+pub mod Lexicals
+pub mod Orders
+pub mod Pairs
