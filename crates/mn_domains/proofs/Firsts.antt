@@ -1,8 +1,8 @@
 -- The first and the last of values that pass a test.
-use Rattle.std.proofs.Common.{◌≡◌, ℕ, zero, suc, ◌+◌, ◌<◌, ◌≤◌, ℤ, pos, ◌≤ℤ◌, ◌⊎◌, inl, inr, int_le, Bool, true, false, true≢false, cond, ◌&&◌, ◌||◌, List, [], ◌∷◌, length, filter, get_or, slice_get, Some, None, refl, sym, subst, ap, ◌∙◌, arith}
+use Rattle.std.proofs.Common.{◌≡◌, ℕ, suc, ◌+◌, ◌<◌, ◌≤◌, ℤ, pos, ◌≤ℤ◌, ◌⊎◌, inl, inr, Bool, true, false, true≢false, cond, ◌&&◌, ◌||◌, List, [], ◌∷◌, length, filter, get_or, Some, None, refl, sym, subst, ap, ◌∙◌, arith}
 use Rattle.std.specs.List.{list_any}
 use Rattle.std.proofs.lemmas.Bool.{cases_lt}
-use Rattle.mn_model.specs.Domain.{Ascends, Has, IsFirst, IsLast}
+use Rattle.mn_model.specs.Domain.{Ascends, Has}
 use Rattle.mn_model.proofs.Ordered.{has_at, in_order}
 use Rattle.mn_model.proofs.Filtered.{filter_ascends, filter_has, has_filter}
 use Rattle.mn_boxes.specs.Sets.{greatest, least}

@@ -1,5 +1,5 @@
 -- The values of a row that pass.
-use Rattle.std.proofs.Common.{◌≡◌, ℕ, ◌+◌, ◌-◌, ◌*◌, ◌^◌, ◌<◌, ◌≤◌, nat_le, ℤ, pos, neg_ℤ, ◌≤ℤ◌, ◌<ℤ◌, ◌⊎◌, inl, inr, int_le, Bool, true, false, true≢false, ◌&&◌, ◌||◌, List, length, filter, Some, None, refl, sym, subst, ap, ◌∙◌, arith}
+use Rattle.std.proofs.Common.{◌≡◌, ℕ, ◌+◌, ◌-◌, ◌*◌, ◌^◌, ◌<◌, ◌≤◌, nat_le, ℤ, pos, neg_ℤ, ◌≤ℤ◌, ◌⊎◌, inl, inr, int_le, Bool, true, false, true≢false, ◌&&◌, ◌||◌, List, length, filter, Some, None, refl, sym, ap, ◌∙◌, arith}
 use Rattle.std.proofs.lemmas.Bool.{cases_lt}
 use Rattle.std.proofs.lemmas.Bool.Decides.{nat_tests}
 use Rattle.std.proofs.lemmas.Int.{ints}
@@ -19,7 +19,7 @@ use Rattle.mn_domains.proofs.Cuts.{bits_between, length_marked}
 use Rattle.mn_domains.proofs.Filtered.{is_filter}
 use Rattle.mn_domains.proofs.Firsts.{both_true, greatest_is, greatest_none, least_is, least_none, left_true, right_true}
 use Rattle.mn_domains.proofs.Marks.{is_marked, marked_has}
-use Rattle.mn_domains.proofs.Sieve.{FirstHit, LastHit, place_of-placed}
+use Rattle.mn_domains.proofs.Sieve.{place_of-placed}
 
 le_test : (a b : ℕ) → a ≤ b → nat_le a b ≡ true
 le_test a b le = grind (arith, nat_tests)
@@ -118,11 +118,11 @@ hits_are bits row s wanted xs from hi up order reads =
     ∙ (ap (λ z. filter (λ a. row_has bits row a && passes s wanted a) (stretch from z)) reads.last
     ∙ is_filter (λ x. int_le from x && passes s wanted x) xs (filter (λ a. row_has bits row a && passes s wanted a) (stretch from hi)) up (filter_ascends (λ a. row_has bits row a && passes s wanted a) (stretch from hi) (Ascends-stretch from hi))
     (λ b has. (let p = has_filter (λ a. row_has bits row a && passes s wanted a) (stretch from hi) b has in
-      let t = (Has-stretch from hi b order).0 p.has in
-      record { has = reads.holds b t.0 t.1 (left_true (row_has bits row b) (passes s wanted b) p.passes); passes = both_true (int_le from b) (passes s wanted b) (le_true from b t.0) (right_true (row_has bits row b) (passes s wanted b) p.passes) }))
+    let t = (Has-stretch from hi b order).0 p.has in
+    record { has = reads.holds b t.0 t.1 (left_true (row_has bits row b) (passes s wanted b) p.passes); passes = both_true (int_le from b) (passes s wanted b) (le_true from b t.0) (right_true (row_has bits row b) (passes s wanted b) p.passes) }))
     (λ b has pass. (let low = le_so from b (left_true (int_le from b) (passes s wanted b) pass) in
-      let t = reads.has b has low in
-      filter_has (λ a. row_has bits row a && passes s wanted a) (stretch from hi) b ((Has-stretch from hi b order).1 (low, t.0)) (both_true (row_has bits row b) (passes s wanted b) t.1 (right_true (int_le from b) (passes s wanted b) pass)))))
+    let t = reads.has b has low in
+    filter_has (λ a. row_has bits row a && passes s wanted a) (stretch from hi) b ((Has-stretch from hi b order).1 (low, t.0)) (both_true (row_has bits row b) (passes s wanted b) t.1 (right_true (int_le from b) (passes s wanted b) pass)))))
 
 placed : (a : ℤ) (n : ℕ) → IsValue a → n ≡ place_of a → value_placed n ≡ a
 placed a n value is = omega (arith, ints, plus-int_gap (neg_ℤ (pos (2 ^ 61))) a (omega (arith, ints, value.0)), is)

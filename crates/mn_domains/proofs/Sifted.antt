@@ -1,8 +1,6 @@
 -- What is kept of a variable's set by a test.
-use Rattle.std.proofs.Common.{◌≡◌, ℕ, zero, suc, ◌+◌, ◌-◌, ◌*◌, ◌<◌, ◌≤◌, ℤ, pos, neg_ℤ, ◌+ℤ◌, ◌^◌, ◌≤ℤ◌, ◌<ℤ◌, ◌⊎◌, ◌↔◌, inl, inr, int_le, IsTrue, Bool, true, false, true≢false, cond, not, ◌&&◌, ◌||◌, List, [], ◌∷◌, length, filter, get_or, slice_get, slice_set, Some, None, Ok, FitsSigned, w64, rules, refl, sym, subst, ap, ◌∙◌, arith}
-use Rattle.std.proofs.lemmas.Bool.{cases_lt}
+use Rattle.std.proofs.Common.{◌≡◌, ℕ, zero, suc, ◌+◌, ◌-◌, ◌*◌, ◌<◌, ◌≤◌, ℤ, pos, neg_ℤ, ◌+ℤ◌, ◌^◌, ◌≤ℤ◌, ◌<ℤ◌, ◌⊎◌, ◌↔◌, inl, inr, int_le, IsTrue, Bool, true, false, true≢false, cond, not, ◌&&◌, ◌||◌, List, [], ◌∷◌, length, filter, FitsSigned, w64, rules, refl, sym, subst, ap, ◌∙◌, arith}
 use Rattle.std.proofs.lemmas.Int.{ints}
-use Rattle.std.proofs.lemmas.List.{set-get_or}
 use Rattle.std.specs.Int.{int_gap}
 use Rattle.std.specs.List.{list_any}
 use Rattle.std.specs.Ordering.{int_eq}
@@ -13,7 +11,7 @@ use Rattle.mn_model.proofs.Stretches.{Has-stretch, plus-int_gap}
 use Rattle.mn_boxes.specs.Bits.{bit_of, count_from}
 use Rattle.mn_boxes.specs.Sets.{Variable, greatest, least}
 use Rattle.mn_boxes.specs.Values.{IsAsWide, IsCovered, Values, members, place_of}
-use Rattle.mn_boxes.proofs.Members.{same_members, stands_first, stands_last}
+use Rattle.mn_boxes.proofs.Members.{stands_first, stands_last}
 use Rattle.mn_domains.specs.Held.{AreEndsOf, IsRow, has_bit, marked}
 use Rattle.mn_domains.specs.Rows.{AreMarks, is_hit, passes, row_has}
 use Rattle.mn_domains.specs.Sifting.{stays}
@@ -86,8 +84,14 @@ staying var p xs a has stay = by var.bounded stay
         let f = any_has (λ x. int_le x a && p x) xs (left_true (list_any (λ x. int_le x a && p x) xs) (list_any (λ x. int_le a x && p x) xs) h) in
         let g = any_has (λ x. int_le a x && p x) xs (right_true (list_any (λ x. int_le x a && p x) xs) (list_any (λ x. int_le a x && p x) xs) h) in
         record {
-          below = f.value; below_has = f.has; below_passes = right_true (int_le f.value a) (p f.value) f.passes; below_le = le_so f.value a (left_true (int_le f.value a) (p f.value) f.passes);
-          above = g.value; above_has = g.has; above_passes = right_true (int_le a g.value) (p g.value) g.passes; above_le = le_so a g.value (left_true (int_le a g.value) (p g.value) g.passes);
+          below = f.value;
+          below_has = f.has;
+          below_passes = right_true (int_le f.value a) (p f.value) f.passes;
+          below_le = le_so f.value a (left_true (int_le f.value a) (p f.value) f.passes);
+          above = g.value;
+          above_has = g.has;
+          above_passes = right_true (int_le a g.value) (p g.value) g.passes;
+          above_le = le_so a g.value (left_true (int_le a g.value) (p g.value) g.passes);
         }
     by false h = record { below = a; below_has = has; below_passes = h; below_le = omega (arith, ints); above = a; above_has = has; above_passes = h; above_le = omega (arith, ints) }
 
@@ -278,13 +282,13 @@ sieved_row bits new lo at e row s wanted least greatest is v_lo ends m first las
     let after = sieved_ends new e row least greatest in
     let whole : marked new lo at e ≡ filter p xs = is_filter p xs (marked new lo at e) up (Ascends-marked new lo at e) to from in
     let values : marked new lo at after ≡ filter p xs =
-      is_filter p xs (marked new lo at after) up (Ascends-marked new lo at after)
-      (λ b has. (let n = is_marked new lo at after b order has in to b (marked_has new lo at e b ends.ordered (record { low = (let a = fm.low in let c = n.low in omega (arith, ints, a, c)); high = (let a = lm.high in let c = n.high in omega (arith, ints, a, c)); mark = n.mark }))))
-      (λ b has pass. (let there = filter_has p xs b has pass in let n = is_marked new lo at e b ends.ordered (from b has pass) in marked_has new lo at after b order (record { low = f.others b there; high = l.others b there; mark = n.mark }))) in
+    is_filter p xs (marked new lo at after) up (Ascends-marked new lo at after)
+    (λ b has. (let n = is_marked new lo at after b order has in to b (marked_has new lo at e b ends.ordered (record { low = (let a = fm.low in let c = n.low in omega (arith, ints, a, c)); high = (let a = lm.high in let c = n.high in omega (arith, ints, a, c)); mark = n.mark }))))
+    (λ b has pass. (let there = filter_has p xs b has pass in let n = is_marked new lo at e b ends.ordered (from b has pass) in marked_has new lo at after b order (record { low = f.others b there; high = l.others b there; mark = n.mark }))) in
     let from_is = m.from in
     let to_is = m.to in
     let size : after.size ≡ length (marked new lo at after) =
-      ap (λ n. count_from (bit_of new) n (row.to + 1 - n)) from_is ∙ (ap (λ n. count_from (bit_of new) (at + int_gap lo e.lo) (n + 1 - (at + int_gap lo e.lo))) to_is ∙ (sym (length_marked new lo at e is.low ends.ordered) ∙ ap length (whole ∙ sym values))) in
+    ap (λ n. count_from (bit_of new) n (row.to + 1 - n)) from_is ∙ (ap (λ n. count_from (bit_of new) (at + int_gap lo e.lo) (n + 1 - (at + int_gap lo e.lo))) to_is ∙ (sym (length_marked new lo at e is.low ends.ordered) ∙ ap length (whole ∙ sym values))) in
     record {
       values = values;
       ends = marked_ends new lo at after order (mark least fm.low fm.high fm.mark fp.passes) (mark greatest lm.low lm.high lm.mark lp.passes) size;

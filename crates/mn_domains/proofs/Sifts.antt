@@ -1,10 +1,9 @@
 -- A variable's set after those values were taken out that fail a test.
-use Rattle.std.proofs.Common.{◌≡◌, ℕ, ◌+◌, ◌-◌, ◌*◌, ◌<◌, ◌≤◌, ℤ, pos, ◌≤ℤ◌, ◌⊎◌, inl, inr, int_le, IsTrue, Bool, true, false, true≢false, not, cond, ◌&&◌, List, [], ◌∷◌, length, filter, get_or, slice_get, slice_set, Option, is_some, Some, None, Ok, refl, sym, subst, ap, ◌∙◌, arith}
+use Rattle.std.proofs.Common.{◌≡◌, ℕ, ◌-◌, ◌<◌, ℤ, pos, ◌≤ℤ◌, ◌⊎◌, inl, inr, int_le, IsTrue, Bool, true, false, true≢false, not, cond, ◌&&◌, List, [], ◌∷◌, length, filter, get_or, slice_set, Option, is_some, Some, None, Ok, refl, sym, subst, ap, ◌∙◌, arith}
 use Rattle.std.proofs.lemmas.Int.{ints}
 use Rattle.std.proofs.lemmas.List.{set-get_or}
 use Rattle.std.proofs.lemmas.Option.{slice_get-get_or}
-use Rattle.std.specs.Int.{int_gap}
-use Rattle.mn_model.specs.Domain.{Ascends, Has, IsFirst, IsLast}
+use Rattle.mn_model.specs.Domain.{Has, IsFirst, IsLast}
 use Rattle.mn_model.proofs.Filtered.{filter_ascends, has_filter}
 use Rattle.mn_model.proofs.Stretches.{plus-int_gap}
 use Rattle.mn_boxes.specs.Bits.{bit_of}
@@ -15,7 +14,7 @@ use Rattle.mn_boxes.specs.declared.change.Moved.{Moved}
 use Rattle.mn_boxes.proofs.Members.{stands_first, stands_last}
 use Rattle.mn_domains.specs.Changes.{Changed}
 use Rattle.mn_domains.specs.Held.{IsHeld, IsKept, IsShape, TellsMoved, is_bounded_shape, marked, values_held, variable_held}
-use Rattle.mn_domains.specs.Rows.{AreMarks, AreMarksOf, is_hit, passes}
+use Rattle.mn_domains.specs.Rows.{AreMarksOf, is_hit, passes}
 use Rattle.mn_domains.specs.Sets.{Sets}
 use Rattle.mn_domains.specs.Sifting.{stays}
 use Rattle.mn_domains.specs.States.{Sieves, sieved_ends}
@@ -24,12 +23,11 @@ use Rattle.mn_domains.specs.declared.shape.Ends.{Ends}
 use Rattle.mn_domains.specs.declared.shape.Shape.{Shape}
 use Rattle.mn_domains.specs.declared.shape.Shape.TheVariants.{Stretch, Listed, Bits}
 use Rattle.mn_domains.specs.declared.state.State.{State}
-use Rattle.mn_domains.proofs.Cuts.{bits_between}
 use Rattle.mn_domains.proofs.Filtered.{filter_alike}
 use Rattle.mn_domains.proofs.Firsts.{no_least}
-use Rattle.mn_domains.proofs.Marks.{Ascends-marked, is_marked}
-use Rattle.mn_domains.proofs.Put.{PutAt, changed_put}
-use Rattle.mn_domains.proofs.RowChange.{NewRow, PutRow, RowChanged, row_changed}
+use Rattle.mn_domains.proofs.Marks.{is_marked}
+use Rattle.mn_domains.proofs.Put.{changed_put}
+use Rattle.mn_domains.proofs.RowChange.{NewRow, RowChanged, row_changed}
 use Rattle.mn_domains.proofs.ShapeLemmas.{Ascends-held, row_held}
 use Rattle.mn_domains.proofs.Sieve.{hit_before, hit_behind}
 use Rattle.mn_domains.proofs.Sifted.{from_least, sieved_row, stays_all, stays_ends, stays_none, stays_plain}

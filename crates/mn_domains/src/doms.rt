@@ -346,12 +346,17 @@ impl Doms {
             Some(a) => a,
             None => return Err(Emptied),
         };
-        let greatest = match shape::last_passing(listed, bits, shape, ends, ends.lo, values, wanted) {
+        let greatest = match shape::last_passing(
+            listed, bits, shape, ends, ends.lo, values, wanted,
+        ) {
             Some(a) => a,
             None => return Err(Emptied),
         };
         match shape::marked_row(listed, bits, shape, ends) {
-            Some(row) => Ok(self.current.sieve(i, ends, row, least, greatest, values, wanted)),
+            Some(row) => Ok(
+                self.current
+                    .sieve(i, ends, row, least, greatest, values, wanted),
+            ),
             None => {
                 let cut = shape::between(listed, bits, shape, ends, least, greatest);
                 Ok(self.current.put(i, ends, cut))

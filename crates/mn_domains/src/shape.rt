@@ -255,7 +255,15 @@ pub fn marked_row(listed: &[i64], bits: &[u64], shape: Shape, ends: Ends) -> Opt
 }
 
 /// The least value that is at least `from` and in the other set, or not in it where `wanted` is false.
-fn first_passing(listed: &[i64], bits: &[u64], shape: Shape, ends: Ends, from: i64, set: &ValueSet, wanted: bool) -> Option<i64>
+fn first_passing(
+    listed: &[i64],
+    bits: &[u64],
+    shape: Shape,
+    ends: Ends,
+    from: i64,
+    set: &ValueSet,
+    wanted: bool,
+) -> Option<i64>
     requires shape { IsShape listed.now (64 * length bits.now) shape }
     requires held { IsHeld listed.now bits.now shape ends }
     requires low { ends.lo ≤ℤ from }
@@ -269,7 +277,15 @@ fn first_passing(listed: &[i64], bits: &[u64], shape: Shape, ends: Ends, from: i
 }
 
 /// The same, wherever `from` is.
-pub fn next_passing(listed: &[i64], bits: &[u64], shape: Shape, ends: Ends, from: i64, set: &ValueSet, wanted: bool) -> Option<i64>
+pub fn next_passing(
+    listed: &[i64],
+    bits: &[u64],
+    shape: Shape,
+    ends: Ends,
+    from: i64,
+    set: &ValueSet,
+    wanted: bool,
+) -> Option<i64>
     requires shape { IsShape listed.now (64 * length bits.now) shape }
     requires held { IsHeld listed.now bits.now shape ends }
     ensures { result ≡ least (filter (λ x. int_le from x && passes set.now wanted x) (values_held listed.now bits.now shape ends)) }
@@ -284,7 +300,15 @@ pub fn next_passing(listed: &[i64], bits: &[u64], shape: Shape, ends: Ends, from
 }
 
 /// The greatest of these values.
-pub fn last_passing(listed: &[i64], bits: &[u64], shape: Shape, ends: Ends, from: i64, set: &ValueSet, wanted: bool) -> Option<i64>
+pub fn last_passing(
+    listed: &[i64],
+    bits: &[u64],
+    shape: Shape,
+    ends: Ends,
+    from: i64,
+    set: &ValueSet,
+    wanted: bool,
+) -> Option<i64>
     requires shape { IsShape listed.now (64 * length bits.now) shape }
     requires held { IsHeld listed.now bits.now shape ends }
     requires low { ends.lo ≤ℤ from }

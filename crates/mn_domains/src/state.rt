@@ -128,7 +128,16 @@ impl State {
 
     /// Takes the values of variable `i` out that fail. The row is that of its values, and `least` and `greatest` are the ends of
     /// what is left.
-    pub fn sieve(&mut self, i: usize, old: Ends, row: Row, least: i64, greatest: i64, set: &ValueSet, wanted: bool) -> Moved
+    pub fn sieve(
+        &mut self,
+        i: usize,
+        old: Ends,
+        row: Row,
+        least: i64,
+        greatest: i64,
+        set: &ValueSet,
+        wanted: bool,
+    ) -> Moved
         requires here { slice_get self.old.ends.items i ≡ Some old }
         requires order { row.from ≤ row.to }
         requires room { row.to < 64 * length self.old.bits.items }

@@ -1,4 +1,4 @@
-use Rattle.std.proofs.Common.{filter, int_le, w64}
+use Rattle.std.proofs.Common.{int_le, w64}
 use Rattle.std.proofs.lemmas.Int.{to_z-of_z}
 use Rattle.mn_model.proofs.Filtered.{filter_has}
 use Rattle.mn_model.proofs.Ordered.{le_true}
@@ -20,4 +20,4 @@ cut_high-requires-clause-low c =
     let held = c.cut_low-rest.ensures.held in
     rw (to_z-of_z w64 c.args.hi c.ranges.hi)
     (between_ends ys c.cut_low-rest.result c.args.hi (Ascends-held c.args.listed.now c.args.bits.now _ c.args.shape c.cut_low-rest.result c.requires.shape held.within) held.ends
-      (rw values (filter_has (λ x. int_le c.args.lo x) xs c.args.hi c.requires.high (le_true c.args.lo c.args.hi c.requires.order)))).low
+    (rw values (filter_has (λ x. int_le c.args.lo x) xs c.args.hi c.requires.high (le_true c.args.lo c.args.hi c.requires.order)))).low

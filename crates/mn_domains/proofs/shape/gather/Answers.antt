@@ -1,7 +1,6 @@
-use Rattle.std.proofs.Common.{FitsSigned, rules, w64, to_z, of_z, pos, ◌+ℤ◌, ◌<◌, ◌<ℤ◌, ◌≤ℤ◌, int_le, filter, arith}
+use Rattle.std.proofs.Common.{FitsSigned, rules, w64, to_z, of_z, pos, ◌+ℤ◌, ◌<◌, ◌<ℤ◌, ◌≤ℤ◌, arith}
 use Rattle.std.specs.Int.{int_gap}
 use Rattle.std.proofs.lemmas.Int.{ints, to_z-of_z}
-use Rattle.mn_model.specs.Domain.{IsFirst}
 use Rattle.mn_domains.specs.Held.{values_held}
 use Rattle.mn_domains.proofs.EndLemmas.{between_ends, has_hi, has_lo}
 use Rattle.mn_domains.proofs.ShapeLemmas.{Ascends-held}

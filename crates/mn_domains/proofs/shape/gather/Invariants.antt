@@ -1,7 +1,4 @@
-use Rattle.std.proofs.Common.{IsTrue, ◌↔◌, ◌⊎◌, ℤ, ◌≤ℤ◌}
 use Rattle.std.specs.Int.{int_gap}
-use Rattle.mn_model.specs.Domain.{Has}
-use Rattle.mn_boxes.specs.Values.{IsAsWide, IsCovered, members}
 use Rattle.mn_domains.specs.Held.{values_held}
 use Rattle.mn_domains.proofs.Sifted.{Gathered}
 use Rattle.mn_domains.proofs.shape.gather.Given as goal

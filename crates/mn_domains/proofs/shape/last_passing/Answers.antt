@@ -1,4 +1,4 @@
-use Rattle.std.proofs.Common.{subst, sym, ap, ◌∙◌, w64}
+use Rattle.std.proofs.Common.{subst, ap, ◌∙◌, w64}
 use Rattle.std.proofs.lemmas.Int.{to_z-of_z}
 use Rattle.mn_model.specs.Domain.{Ascends}
 use Rattle.mn_boxes.specs.Sets.{greatest}

@@ -1,5 +1,5 @@
-use Rattle.std.proofs.Common.{FitsSigned, rules, w64, arith}
-use Rattle.std.proofs.lemmas.Int.{ints, to_z-of_z}
+use Rattle.std.proofs.Common.{FitsSigned, rules, w64}
+use Rattle.std.proofs.lemmas.Int.{to_z-of_z}
 use Rattle.mn_domains.proofs.Hits.{marks}
 use Rattle.mn_domains.proofs.ShapeLemmas.{row_held}
 use Rattle.mn_domains.proofs.shape.marked_row.Goals as goal

@@ -1,5 +1,4 @@
 use Rattle.std.proofs.Common.{arith}
-use Rattle.std.proofs.lemmas.Int.{to_z-of_z}
 use Rattle.mn_model.specs.Variable.{number_of}
 use Rattle.mn_domains.proofs.Standing.{known, stands_at}
 use Rattle.mn_domains.proofs.doms.Doms.gather.Goals as goal

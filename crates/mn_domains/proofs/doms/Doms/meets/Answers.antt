@@ -1,5 +1,4 @@
-use Rattle.std.proofs.Common.{FitsSigned, rules, w64, arith, sym, ap, ◌∙◌, ◌≡◌, Some, None, filter}
-use Rattle.std.specs.List.{list_any}
+use Rattle.std.proofs.Common.{FitsSigned, rules, w64, arith, sym, ap, ◌∙◌}
 use Rattle.std.proofs.lemmas.Int.{ints, to_z-of_z}
 use Rattle.mn_model.specs.Variable.{number_of}
 use Rattle.mn_boxes.specs.Sets.{least}

@@ -1,5 +1,5 @@
 use Rattle.std.proofs.Common.{FitsSigned, rules, w64, arith, refl, sym, ◌∙◌, length}
-use Rattle.std.proofs.lemmas.Int.{ints, to_z-of_z}
+use Rattle.std.proofs.lemmas.Int.{to_z-of_z}
 use Rattle.std.proofs.lemmas.Option.{slice_get_read}
 use Rattle.mn_model.specs.Variable.{number_of}
 use Rattle.mn_boxes.specs.Boxes.{set_of, variable_at}
