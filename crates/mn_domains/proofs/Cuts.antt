@@ -27,7 +27,7 @@ count_numbers bits lo at x (suc n) low =
     by true ys m is = omega (arith, is)
     by false ys m is = omega (arith, is)
 
-length_marked : (bits : List ℕ) (lo : ℤ) (at : ℕ) (e : Ends) → lo ≤ℤ e.lo → e.lo ≤ℤ e.hi → length (marked bits lo at e) ≡ count_from (bit_of bits) (at + int_gap lo e.lo) ((at + int_gap lo e.hi + 1) - (at + int_gap lo e.lo))
+pub length_marked : (bits : List ℕ) (lo : ℤ) (at : ℕ) (e : Ends) → lo ≤ℤ e.lo → e.lo ≤ℤ e.hi → length (marked bits lo at e) ≡ count_from (bit_of bits) (at + int_gap lo e.lo) ((at + int_gap lo e.hi + 1) - (at + int_gap lo e.lo))
 unfolding stretch
 length_marked bits lo at e low ordered =
     let many : suc (int_gap e.lo e.hi) ≡ (at + int_gap lo e.hi + 1) - (at + int_gap lo e.lo) = omega (arith, ints, plus-int_gap lo e.lo low, plus-int_gap lo e.hi (omega (arith, ints, low, ordered)), plus-int_gap e.lo e.hi ordered) in

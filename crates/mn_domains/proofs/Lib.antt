@@ -3,7 +3,9 @@ pub mod Cuts
 pub mod Emptying
 pub mod EndLemmas
 pub mod Filtered
+pub mod Firsts
 pub mod Full
+pub mod Hits
 pub mod Layers
 pub mod Laying
 pub mod Marks
@@ -12,5 +14,7 @@ pub mod Put
 pub mod RowChange
 pub mod ShapeLemmas
 pub mod Sieve
+pub mod Sifted
+pub mod Sifts
 pub mod Standing
 pub mod Unmarking

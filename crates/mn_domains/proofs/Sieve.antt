@@ -1,16 +1,17 @@
 -- Bits that a set of values keeps.
-use Rattle.std.proofs.Common.{◌≡◌, ℕ, ◌+◌, ◌-◌, ◌*◌, ◌/◌, ◌%◌, ◌^◌, ◌<◌, ◌≤◌, ◌==◌, nat_le, pos, neg_ℤ, Bool, true, false, not, ◌&&◌, List, length, slice_index_or, slice_set, bit_and, refl, sym, ap, ◌∙◌, ◌⊎◌, inl, inr, arith}
+use Rattle.std.proofs.Common.{◌≡◌, ℕ, ◌+◌, ◌-◌, ◌*◌, ◌/◌, ◌%◌, ◌^◌, ◌<◌, ◌≤◌, ◌==◌, nat_le, pos, neg_ℤ, Bool, true, false, not, ◌&&◌, ◌||◌, List, length, slice_index_or, slice_set, bit_and, refl, sym, ap, ◌∙◌, ◌⊎◌, inl, inr, arith}
 use Rattle.std.specs.Int.{bit_at, bit_not, trailing_zeros, w64}
 use Rattle.std.proofs.lemmas.Bool.{cases_lt}
 use Rattle.std.proofs.lemmas.Bool.Decides.{nat_tests}
 use Rattle.std.proofs.lemmas.Int.{ints}
 use Rattle.std.proofs.lemmas.List.{get_or-set_other, get_or-set_same, length-set}
-use Rattle.std.proofs.lemmas.Nat.Bits.{bit_at-trailing_zeros, bit_at-zero}
+use Rattle.std.proofs.lemmas.Nat.Bits.{bit_at-trailing_zeros, bit_at-zero, bit_at_ones}
 use Rattle.mn_model.proofs.Stretches.{plus-int_gap}
 use Rattle.mn_boxes.specs.Bits.{bit_of, word_bit}
 use Rattle.mn_boxes.specs.Values.{Values, place_of}
 use Rattle.mn_boxes.proofs.Windows.{word_bit-and, word_bit-not}
-use Rattle.mn_domains.specs.Rows.{is_hit, passes, value_placed}
+use Rattle.mn_boxes.proofs.Words.{highest}
+use Rattle.mn_domains.specs.Rows.{is_hit, is_in, passes, value_placed}
 use Rattle.mn_domains.specs.declared.rows.Row.{Row}
 
 pub place_of-placed : (n : ℕ) → place_of (value_placed n) ≡ n
@@ -18,19 +19,25 @@ place_of-placed n = omega (arith, ints, plus-int_gap (neg_ℤ (pos (2 ^ 61))) (v
 
 -- ---- the bits of one word
 
-pub part_bits : (bits : List ℕ) (row : Row) (s : Values) (wanted : Bool) (word run pass i : ℕ) → i / 64 ≡ word → word_bit run (i % 64) ≡ (nat_le row.from i && nat_le i row.to)
+pub part_bits : (bits : List ℕ) (row : Row) (s : Values) (wanted : Bool) (word read run pass i : ℕ) → i / 64 ≡ word → word_bit read (i % 64) ≡ is_in bits row i → word_bit run (i % 64) ≡ (nat_le row.from i && nat_le i row.to)
     → (word * 64 + row.raise ≤ place_of (value_placed (i + row.raise)) → place_of (value_placed (i + row.raise)) < word * 64 + row.raise + 64 → passes s wanted (value_placed (i + row.raise)) ≡ word_bit pass (place_of (value_placed (i + row.raise)) - (word * 64 + row.raise)))
-    → word_bit (bit_and (bit_and (slice_index_or bits word 0) run) pass) (i % 64) ≡ is_hit bits row s wanted i
-part_bits bits row s wanted word run pass i is between told =
+    → word_bit (bit_and (bit_and read run) pass) (i % 64) ≡ is_hit bits row s wanted i
+part_bits bits row s wanted word read run pass i is here between told =
     let at = place_of-placed (i + row.raise) in
     let bit : place_of (value_placed (i + row.raise)) - (word * 64 + row.raise) ≡ i % 64 = omega (arith, at, is) in
     let passed : passes s wanted (value_placed (i + row.raise)) ≡ word_bit pass (i % 64) = told (omega (arith, at, is)) (omega (arith, at, is)) ∙ ap (word_bit pass) bit in
-    let here : word_bit (slice_index_or bits word 0) (i % 64) ≡ bit_of bits i = ap (λ q. word_bit (slice_index_or bits q 0) (i % 64)) (sym is) in
-    word_bit-and (bit_and (slice_index_or bits word 0) run) pass (i % 64)
-    ∙ (ap (λ b. b && word_bit pass (i % 64)) (word_bit-and (slice_index_or bits word 0) run (i % 64))
+    word_bit-and (bit_and read run) pass (i % 64)
+    ∙ (ap (λ b. b && word_bit pass (i % 64)) (word_bit-and read run (i % 64))
     ∙ (ap (λ b. (b && word_bit run (i % 64)) && word_bit pass (i % 64)) here
-    ∙ (ap (λ b. (bit_of bits i && b) && word_bit pass (i % 64)) between
-    ∙ ap (λ b. (bit_of bits i && (nat_le row.from i && nat_le i row.to)) && b) (sym passed))))
+    ∙ (ap (λ b. (is_in bits row i && b) && word_bit pass (i % 64)) between
+    ∙ ap (λ b. (is_in bits row i && (nat_le row.from i && nat_le i row.to)) && b) (sym passed))))
+
+-- one word of the bits that count as set
+pub full_bits : (bits : List ℕ) (row : Row) (i : ℕ) → row.full ≡ true → word_bit (2 ^ 64 - 1) (i % 64) ≡ is_in bits row i
+full_bits bits row i full = ap (λ n. n == 1) (bit_at_ones 64 (i % 64) (omega arith)) ∙ sym (ap (λ b. b || bit_of bits i) full)
+
+pub own_bits : (bits : List ℕ) (row : Row) (word i : ℕ) → row.full ≡ false → i / 64 ≡ word → word_bit (slice_index_or bits word 0) (i % 64) ≡ is_in bits row i
+own_bits bits row word i plain is = ap (λ q. word_bit (slice_index_or bits q 0) (i % 64)) (sym is) ∙ sym (ap (λ b. b || bit_of bits i) plain)
 
 -- ---- bits that aren't the row's
 
@@ -46,10 +53,10 @@ and_false true = refl
 and_false false = refl
 
 pub hit_before : (bits : List ℕ) (row : Row) (s : Values) (wanted : Bool) (i : ℕ) → i < row.from → is_hit bits row s wanted i ≡ false
-hit_before bits row s wanted i less = not_both (bit_of bits i) (nat_le row.from i) (nat_le i row.to) (passes s wanted (value_placed (i + row.raise))) (ap (λ b. b && nat_le i row.to) (more_test row.from i less))
+hit_before bits row s wanted i less = not_both (is_in bits row i) (nat_le row.from i) (nat_le i row.to) (passes s wanted (value_placed (i + row.raise))) (ap (λ b. b && nat_le i row.to) (more_test row.from i less))
 
 pub hit_behind : (bits : List ℕ) (row : Row) (s : Values) (wanted : Bool) (i : ℕ) → row.to < i → is_hit bits row s wanted i ≡ false
-hit_behind bits row s wanted i more = not_both (bit_of bits i) (nat_le row.from i) (nat_le i row.to) (passes s wanted (value_placed (i + row.raise))) (ap (λ b. nat_le row.from i && b) (more_test i row.to more) ∙ and_false (nat_le row.from i))
+hit_behind bits row s wanted i more = not_both (is_in bits row i) (nat_le row.from i) (nat_le i row.to) (passes s wanted (value_placed (i + row.raise))) (ap (λ b. nat_le row.from i && b) (more_test i row.to more) ∙ and_false (nat_le row.from i))
 
 -- ---- the first that is hit
 
@@ -84,6 +91,35 @@ hit_here bits row s wanted word part none tells some fits =
     earlier : (i : ℕ) → i < word * 64 + trailing_zeros w64 part → ((j : ℕ) → j < trailing_zeros w64 part → bit_at part j ≡ 0) → trailing_zeros w64 part < 64 → (i / 64 < word) ⊎ (word ≤ i / 64) → is_hit bits row s wanted i ≡ false
     earlier i less zeros below (inl before) = none i before
     earlier i less zeros below (inr here) = sym (tells i (omega (arith, less, below, here))) ∙ ap (λ n. n == 1) (zeros (i % 64) (omega (arith, less, below, here)))
+
+-- ---- the last that is hit
+
+abbrev pub NoneFrom : List ℕ → Row → Values → Bool → ℕ → Type 0
+NoneFrom bits row s wanted word = (i : ℕ) → word ≤ i / 64 → is_hit bits row s wanted i ≡ false
+
+pub none_earlier : (bits : List ℕ) (row : Row) (s : Values) (wanted : Bool) (word part : ℕ) → NoneFrom bits row s wanted (word + 1) → TellsPart bits row s wanted word part → part ≡ 0 → NoneFrom bits row s wanted word
+none_earlier bits row s wanted word part none tells empty i at = by (cases_lt word (i / 64))
+  where
+    by : (word < i / 64) ⊎ (i / 64 ≤ word) → is_hit bits row s wanted i ≡ false
+    by (inl more) = none i (omega (arith, more))
+    by (inr here) = sym (tells i (omega (arith, at, here))) ∙ (ap (λ p. word_bit p (i % 64)) empty ∙ ap (λ n. n == 1) (bit_at-zero (i % 64)))
+
+pub record LastHit (bits : List ℕ) (row : Row) (s : Values) (wanted : Bool) (last : ℕ) : Type 0 where
+  pub hit : is_hit bits row s wanted last ≡ true
+  pub none : (i : ℕ) → last < i → is_hit bits row s wanted i ≡ false
+
+pub last_hit_here : (bits : List ℕ) (row : Row) (s : Values) (wanted : Bool) (word part t : ℕ) → NoneFrom bits row s wanted (word + 1) → TellsPart bits row s wanted word part → t < 64 → 2 ^ t ≤ part → part < 2 * 2 ^ t → LastHit bits row s wanted (word * 64 + t)
+last_hit_here bits row s wanted word part t none tells below low high =
+    let h = highest part t low high in
+    let place : (word * 64 + t) % 64 ≡ t = omega (arith, below) in
+    record {
+      hit = sym (tells (word * 64 + t) (omega (arith, below))) ∙ (ap (word_bit part) place ∙ ap (λ n. n == 1) h.set);
+      none = λ i more. later i more h.above (cases_lt word (i / 64));
+    }
+  where
+    later : (i : ℕ) → word * 64 + t < i → ((j : ℕ) → t < j → bit_at part j ≡ 0) → (word < i / 64) ⊎ (i / 64 ≤ word) → is_hit bits row s wanted i ≡ false
+    later i more zeros (inl behind) = none i (omega (arith, behind))
+    later i more zeros (inr here) = sym (tells i (omega (arith, more, below, here))) ∙ ap (λ n. n == 1) (zeros (i % 64) (omega (arith, more, below, here)))
 
 -- ---- bits that are cleared
 
@@ -127,7 +163,7 @@ sieved_next old bits row s wanted word lost so_far tells within fits = record {
     by i below (inr from) =
         let is : i / 64 ≡ word = omega (arith, below, from) in
         let was = so_far.same i from in
-        let hit : word_bit lost (i % 64) ≡ is_hit old row s wanted i = tells i is ∙ ap (λ b. (b && (nat_le row.from i && nat_le i row.to)) && passes s wanted (value_placed (i + row.raise))) was in
+        let hit : word_bit lost (i % 64) ≡ is_hit old row s wanted i = tells i is ∙ ap (λ b. ((row.full || b) && (nat_le row.from i && nat_le i row.to)) && passes s wanted (value_placed (i + row.raise))) was in
         cleared_here bits word lost i within fits is ∙ (ap (λ b. b && not (word_bit lost (i % 64))) was ∙ ap (λ b. bit_of old i && not b) hit)
 
 pub sieved_all : (old bits : List ℕ) (row : Row) (s : Values) (wanted : Bool) (word i : ℕ) → Sieved old bits row s wanted word → row.to / 64 < word → bit_of bits i ≡ (bit_of old i && not (is_hit old row s wanted i))

@@ -140,7 +140,7 @@ unmarked_shape listed shapes old new saved s v (Bits lo hi at) e a bit moved vie
     unmarked listed shapes old new saved s v lo hi at e a moved view kept_old within at_shape at_ends tells.0 tells.1 (subst (λ b. Unmarks old new v e b moved) tells.2 u)
 
 -- of a set that loses values at its ends alone no value between them may go
-bounded_held : (listed : List ℤ) (shape : Shape) → IsTrue (is_bounded_shape shape) → IsTrue (variable_held listed shape).bounded
+pub bounded_held : (listed : List ℤ) (shape : Shape) → IsTrue (is_bounded_shape shape) → IsTrue (variable_held listed shape).bounded
 bounded_held listed (Stretch lo hi) t = t
 bounded_held listed (Listed from to) t = t
 bounded_held listed (Bits lo hi at) t = t

@@ -4,4 +4,5 @@ pub mod Laid
 pub mod Layouts
 pub mod Rows
 pub mod Sets
+pub mod Sifting
 pub mod States

@@ -1,15 +1,18 @@
-ghost use Rattle.std.specs.Prelude.{◌≡◌, ◌<◌, [], IsTrue, ◌↔◌, IfOk, OnOk, OnErr, filter, int_le, int_lt, length};
+//! The sets of all variables, with what may be asked and changed of them.
+ghost use Rattle.std.specs.Prelude.{◌≡◌, ◌<◌, ℤ, ◌⊎◌, [], IsTrue, ◌↔◌, IfOk, OnOk, OnErr, filter, int_le, int_lt, length, not, ◌&&◌};
+ghost use Rattle.std.specs.List.{list_any};
 ghost use Rattle.std.specs.Ordering.{int_eq};
 ghost use Rattle.mn_model.specs.Domain.{Has, IsFirst, IsLast};
 ghost use Rattle.mn_model.specs.Variable.{number_of};
 ghost use Rattle.mn_model.specs.Problem.{domains_of};
 ghost use Rattle.mn_boxes.specs.Boxes.{count_of, declared_variables, set_of, variable_at};
 ghost use Rattle.mn_boxes.specs.Sets.{MayGo, least};
+ghost use Rattle.mn_boxes.specs.Values.{IsAsWide, IsCovered, members};
 
 use super::layout::layout_of;
-use super::shape::{self, Ends, Shape};
-use super::state::State;
-use mn_boxes::Moved;
+use super::shape::{self, Shape};
+use super::state::{State, moved};
+use mn_boxes::{Moved, ValueSet};
 use mn_model::{Instance, VarId};
 use std::alloc::{AllocError, Global};
 use std::marker::Model;
@@ -49,7 +52,9 @@ impl Model for Doms {
 
 impl Doms {
     ghost use Rattle.mn_domains.specs.Changes.{Changed, Restored, is_not, saved_now};
+    ghost use Rattle.mn_domains.specs.Rows.{passes};
     ghost use Rattle.mn_domains.specs.Sets.{AreBoxes, Sets};
+    ghost use Rattle.mn_domains.specs.Sifting.{stays};
 
     /// The declared sets, with no flags and no state saved.
     pub fn build(alloc: Global, inst: &Instance) -> Result<Doms, AllocError>
@@ -246,6 +251,115 @@ impl Doms {
             None => {
                 let rest = shape::without(listed, bits, shape, ends, a);
                 Ok(self.current.put(i, ends, rest))
+            }
+        }
+    }
+
+    /// Puts the values of the variable's set into the other one.
+    pub fn gather(&self, v: VarId, into: &mut ValueSet)
+        requires within { number_of v < length self.now.vars }
+        requires covered { (a : ℤ) → Has (set_of self.now.now.sets (number_of v)) a → IsCovered into.old a }
+        ensures wide { IsAsWide into.old into.new }
+        ensures members { (a : ℤ) → IsTrue (members into.new a) ↔ (IsTrue (members into.old a) ⊎ Has (set_of self.now.now.sets (number_of v)) a) }
+    {
+        let i = v.number() as usize;
+        shape::gather(
+            self.listed.as_slice(),
+            self.current.bits.as_slice(),
+            self.shapes[i],
+            self.current.ends[i],
+            into,
+        )
+    }
+
+    /// Whether a value of the variable's set is in the other one.
+    pub fn meets(&self, v: VarId, values: &ValueSet) -> bool
+        requires { number_of v < length self.now.vars }
+        ensures { result ≡ list_any (members values.now) (set_of self.now.now.sets (number_of v)) }
+    {
+        let i = v.number() as usize;
+        let ends = self.current.ends[i];
+        let found = shape::next_passing(
+            self.listed.as_slice(),
+            self.current.bits.as_slice(),
+            self.shapes[i],
+            ends,
+            ends.lo,
+            values,
+            true,
+        );
+        match found {
+            Some(_) => true,
+            None => false,
+        }
+    }
+
+    /// The least value of the variable's set that is at least `a` and not in the other one.
+    pub fn next_outside(&self, v: VarId, values: &ValueSet, a: i64) -> Option<i64>
+        requires { number_of v < length self.now.vars }
+        ensures { result ≡ least (filter (λ x. int_le a x && not (members values.now x)) (set_of self.now.now.sets (number_of v))) }
+    {
+        let i = v.number() as usize;
+        shape::next_passing(
+            self.listed.as_slice(),
+            self.current.bits.as_slice(),
+            self.shapes[i],
+            self.current.ends[i],
+            a,
+            values,
+            false,
+        )
+    }
+
+    /// Keeps the values of the other set. Where values go at the ends alone, those from the least to the greatest of them.
+    pub fn keep(&mut self, v: VarId, values: &ValueSet) -> Result<Moved, Emptied>
+        requires { number_of v < length self.old.vars }
+        ensures { Changed (stays (variable_at self.old.vars (number_of v)) (members values.now) (set_of self.old.now.sets (number_of v))) (number_of v) self.old self.new result }
+    {
+        self.sift(v, values, true)
+    }
+
+    /// Takes the values of the other set out. Where values go at the ends alone, as far as the first and from the last that
+    /// isn't in it.
+    pub fn exclude(&mut self, v: VarId, values: &ValueSet) -> Result<Moved, Emptied>
+        requires { number_of v < length self.old.vars }
+        ensures { Changed (stays (variable_at self.old.vars (number_of v)) (λ a. not (members values.now a)) (set_of self.old.now.sets (number_of v))) (number_of v) self.old self.new result }
+    {
+        self.sift(v, values, false)
+    }
+
+    /// Keeps the values that are in the other set, or that aren't where `wanted` is false.
+    fn sift(&mut self, v: VarId, values: &ValueSet, wanted: bool) -> Result<Moved, Emptied>
+        requires { number_of v < length self.old.vars }
+        ensures { Changed (stays (variable_at self.old.vars (number_of v)) (passes values.now wanted) (set_of self.old.now.sets (number_of v))) (number_of v) self.old self.new result }
+    {
+        let i = v.number() as usize;
+        let ends = self.current.ends[i];
+        let shape = self.shapes[i];
+        let listed = self.listed.as_slice();
+        let bits = self.current.bits.as_slice();
+        let lost = shape::next_passing(listed, bits, shape, ends, ends.lo, values, !wanted);
+        if lost.is_none() {
+            return Ok(moved(ends, ends));
+        }
+        let least = match shape::next_passing(listed, bits, shape, ends, ends.lo, values, wanted) {
+            Some(a) => a,
+            None => return Err(Emptied),
+        };
+        let greatest = match shape::last_passing(
+            listed, bits, shape, ends, ends.lo, values, wanted,
+        ) {
+            Some(a) => a,
+            None => return Err(Emptied),
+        };
+        match shape::marked_row(listed, bits, shape, ends) {
+            Some(row) => Ok(
+                self.current
+                    .sieve(i, ends, row, least, greatest, values, wanted),
+            ),
+            None => {
+                let cut = shape::between(listed, bits, shape, ends, least, greatest);
+                Ok(self.current.put(i, ends, cut))
             }
         }
     }

@@ -1,10 +1,13 @@
 //! Sets that are a part of listed values.
-ghost use Rattle.std.specs.Prelude.{◌≡◌, ◌+◌, ◌<◌, ◌≤◌, ◌<ℤ◌, ◌≤ℤ◌, IsTrue, ◌↔◌, length, take, drop, filter, int_le, int_lt};
+ghost use Rattle.std.specs.Prelude.{◌≡◌, ◌+◌, ◌<◌, ◌≤◌, ◌<ℤ◌, ◌≤ℤ◌, IsTrue, ◌↔◌, length, take, drop, filter, int_le, int_lt, ◌&&◌};
 ghost use Rattle.std.specs.Ordering.{int_eq};
 ghost use Rattle.mn_model.specs.Domain.{Ascends, Has, IsFirst};
+ghost use Rattle.mn_boxes.specs.Sets.{greatest, least};
 ghost use Rattle.mn_domains.specs.Held.{AreEndsOf, part_of};
+ghost use Rattle.mn_domains.specs.Rows.{passes};
 
 use super::shape::Ends;
+use mn_boxes::ValueSet;
 
 /// The part that a set is.
 pub fn part(listed: &[i64], ends: Ends) -> &[i64]
@@ -108,4 +111,45 @@ pub fn only(listed: &[i64], ends: Ends, a: i64) -> Ends
         size: 1,
         place: ends.place + skipped,
     }
+}
+
+/// Whether `a` is at least `from` and in the set, or not in it where `wanted` is false.
+fn is_passing(set: &ValueSet, wanted: bool, from: i64, a: i64) -> bool
+    ensures { result ≡ (int_le from a && passes set.now wanted a) }
+{
+    if a < from {
+        return false;
+    }
+    let has = set.has(a);
+    if wanted { has } else { !has }
+}
+
+/// The least of the values that are at least `from` and pass.
+pub fn first_passing(values: &[i64], from: i64, set: &ValueSet, wanted: bool) -> Option<i64>
+    requires { Ascends values.now }
+    ensures { result ≡ least (filter (λ x. int_le from x && passes set.now wanted x) values.now) }
+{
+    for i in 0..values.len() {
+        let value = values[i];
+        if is_passing(set, wanted, from, value) {
+            return Some(value);
+        }
+    }
+    None
+}
+
+/// The greatest of the values that are at least `from` and pass.
+pub fn last_passing(values: &[i64], from: i64, set: &ValueSet, wanted: bool) -> Option<i64>
+    requires { Ascends values.now }
+    ensures { result ≡ greatest (filter (λ x. int_le from x && passes set.now wanted x) values.now) }
+{
+    let mut behind = values.len();
+    while 0 < behind {
+        behind -= 1;
+        let value = values[behind];
+        if is_passing(set, wanted, from, value) {
+            return Some(value);
+        }
+    }
+    None
 }

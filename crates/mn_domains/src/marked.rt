@@ -3,8 +3,11 @@ ghost use Rattle.std.specs.Prelude.{◌≡◌, ℕ, ◌+◌, ◌-◌, ◌*◌, �
 ghost use Rattle.std.specs.Int.{int_gap};
 ghost use Rattle.std.specs.Ordering.{int_eq};
 ghost use Rattle.mn_model.specs.Domain.{Has, IsValue};
+ghost use Rattle.mn_boxes.specs.Values.{place_of};
 ghost use Rattle.mn_domains.specs.Held.{AreEndsOf, IsRoom, IsRow, IsSpan, has_bit, marked};
+ghost use Rattle.mn_domains.specs.Rows.{Spans};
 
+use super::rows::{Row, place};
 use super::shape::Ends;
 use mn_boxes::bits::{count, is_set, next_set, previous_set};
 
@@ -15,6 +18,26 @@ pub fn bit_number(lo: i64, at: usize, a: i64) -> usize
     ensures { result ≡ at + int_gap lo a }
 {
     at + a.abs_diff(lo) as usize
+}
+
+/// The bits of the values from `from` to `to`.
+pub fn row(lo: i64, at: usize, from: i64, to: i64) -> Row
+    requires span { IsSpan lo to }
+    requires low { lo ≤ℤ from }
+    requires order { from ≤ℤ to }
+    requires small { at + int_gap lo to < 2 ^ 60 }
+    ensures spans { Spans result from to }
+    ensures raise { at + result.raise ≡ place_of lo }
+    ensures plain { result.full ≡ false }
+    ensures from { result.from ≡ at + int_gap lo from }
+    ensures to { result.to ≡ at + int_gap lo to }
+{
+    Row {
+        from: bit_number(lo, at, from),
+        to: bit_number(lo, at, to),
+        raise: place(lo) - at,
+        full: false,
+    }
 }
 
 /// The value whose bit has this number.

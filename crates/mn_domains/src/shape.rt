@@ -1,12 +1,16 @@
 //! How one set is held, and which ends it has after a change.
-ghost use Rattle.std.specs.Prelude.{◌≡◌, ◌*◌, ◌^◌, ◌<◌, ◌≤◌, IfSome, ◌<ℤ◌, ◌≤ℤ◌, IsTrue, ◌↔◌, length, filter, int_le, int_lt};
+ghost use Rattle.std.specs.Prelude.{◌≡◌, ◌*◌, ◌^◌, ◌<◌, ◌≤◌, IfSome, ◌<ℤ◌, ◌≤ℤ◌, IsTrue, ◌↔◌, length, filter, int_le, int_lt, ℤ, ◌⊎◌, ◌&&◌, true};
 ghost use Rattle.std.specs.Ordering.{int_eq};
 ghost use Rattle.mn_model.specs.Domain.{Has, IsFirst, IsValue, stretch};
-ghost use Rattle.mn_boxes.specs.Sets.{MayGo, least};
+ghost use Rattle.mn_boxes.specs.Sets.{MayGo, greatest, least};
+ghost use Rattle.mn_boxes.specs.Values.{IsAsWide, IsCovered, members};
 ghost use Rattle.mn_domains.specs.Changes.{is_not};
+ghost use Rattle.mn_domains.specs.Rows.{TellsMarks, TellsRow, passes};
 ghost use Rattle.mn_domains.specs.Held.{AreEndsOf, IsFull, IsHeld, IsShape, IsWithin, TellsBit, values_held, variable_held};
 
+use super::rows::{Row, stretch_row};
 use super::{listed as parts, marked};
+use mn_boxes::ValueSet;
 
 /// How the set of a variable is held.
 #[derive(Clone, Copy, Debug, PartialEq, Eq)]
@@ -221,4 +225,132 @@ pub fn next(listed: &[i64], bits: &[u64], shape: Shape, ends: Ends, a: i64) -> O
         return None;
     }
     Some(least_from(listed, bits, shape, ends, a + 1))
+}
+
+/// The bits of the values from `from` to the greatest one. A listed set has none.
+fn row_from(listed: &[i64], bits: &[u64], shape: Shape, ends: Ends, from: i64) -> Option<Row>
+    requires shape { IsShape listed.now (64 * length bits.now) shape }
+    requires held { IsHeld listed.now bits.now shape ends }
+    requires low { ends.lo ≤ℤ from }
+    requires high { from ≤ℤ ends.hi }
+    ensures { TellsRow listed.now bits.now shape ends from result }
+{
+    match shape {
+        Shape::Stretch(..) => Some(stretch_row(from, ends.hi)),
+        Shape::Listed(..) => None,
+        Shape::Bits(lo, _, at) => Some(marked::row(lo, at, from, ends.hi)),
+    }
+}
+
+/// The bits of the values of a marked set.
+pub fn marked_row(listed: &[i64], bits: &[u64], shape: Shape, ends: Ends) -> Option<Row>
+    requires shape { IsShape listed.now (64 * length bits.now) shape }
+    requires held { IsHeld listed.now bits.now shape ends }
+    ensures { TellsMarks bits.now shape ends result }
+{
+    match shape {
+        Shape::Stretch(..) | Shape::Listed(..) => None,
+        Shape::Bits(lo, _, at) => Some(marked::row(lo, at, ends.lo, ends.hi)),
+    }
+}
+
+/// The least value that is at least `from` and in the other set, or not in it where `wanted` is false.
+fn first_passing(
+    listed: &[i64],
+    bits: &[u64],
+    shape: Shape,
+    ends: Ends,
+    from: i64,
+    set: &ValueSet,
+    wanted: bool,
+) -> Option<i64>
+    requires shape { IsShape listed.now (64 * length bits.now) shape }
+    requires held { IsHeld listed.now bits.now shape ends }
+    requires low { ends.lo ≤ℤ from }
+    requires high { from ≤ℤ ends.hi }
+    ensures { result ≡ least (filter (λ x. int_le from x && passes set.now wanted x) (values_held listed.now bits.now shape ends)) }
+{
+    match row_from(listed, bits, shape, ends, from) {
+        Some(row) => row.first_value(bits, set, wanted),
+        None => parts::first_passing(parts::part(listed, ends), from, set, wanted),
+    }
+}
+
+/// The same, wherever `from` is.
+pub fn next_passing(
+    listed: &[i64],
+    bits: &[u64],
+    shape: Shape,
+    ends: Ends,
+    from: i64,
+    set: &ValueSet,
+    wanted: bool,
+) -> Option<i64>
+    requires shape { IsShape listed.now (64 * length bits.now) shape }
+    requires held { IsHeld listed.now bits.now shape ends }
+    ensures { result ≡ least (filter (λ x. int_le from x && passes set.now wanted x) (values_held listed.now bits.now shape ends)) }
+{
+    if ends.hi < from {
+        return None;
+    }
+    if from < ends.lo {
+        return first_passing(listed, bits, shape, ends, ends.lo, set, wanted);
+    }
+    first_passing(listed, bits, shape, ends, from, set, wanted)
+}
+
+/// The greatest of these values.
+pub fn last_passing(
+    listed: &[i64],
+    bits: &[u64],
+    shape: Shape,
+    ends: Ends,
+    from: i64,
+    set: &ValueSet,
+    wanted: bool,
+) -> Option<i64>
+    requires shape { IsShape listed.now (64 * length bits.now) shape }
+    requires held { IsHeld listed.now bits.now shape ends }
+    requires low { ends.lo ≤ℤ from }
+    requires high { from ≤ℤ ends.hi }
+    ensures { result ≡ greatest (filter (λ x. int_le from x && passes set.now wanted x) (values_held listed.now bits.now shape ends)) }
+{
+    match row_from(listed, bits, shape, ends, from) {
+        Some(row) => row.last_value(bits, set, wanted),
+        None => parts::last_passing(parts::part(listed, ends), from, set, wanted),
+    }
+}
+
+/// The set without the values below `lo` and those above `hi`.
+pub fn between(listed: &[i64], bits: &[u64], shape: Shape, ends: Ends, lo: i64, hi: i64) -> Ends
+    requires shape { IsShape listed.now (64 * length bits.now) shape }
+    requires held { IsHeld listed.now bits.now shape ends }
+    requires low { Has (values_held listed.now bits.now shape ends) lo }
+    requires order { lo ≤ℤ hi }
+    requires high { Has (values_held listed.now bits.now shape ends) hi }
+    ensures held { IsHeld listed.now bits.now shape result }
+    ensures values { values_held listed.now bits.now shape result ≡ filter (λ x. int_le x hi) (filter (λ x. int_le lo x) (values_held listed.now bits.now shape ends)) }
+{
+    let rest = cut_low(listed, bits, shape, ends, lo);
+    cut_high(listed, bits, shape, rest, hi)
+}
+
+/// Puts the values into the other set.
+pub fn gather(listed: &[i64], bits: &[u64], shape: Shape, ends: Ends, into: &mut ValueSet)
+    requires shape { IsShape listed.now (64 * length bits.now) shape }
+    requires held { IsHeld listed.now bits.now shape ends }
+    requires covered { (a : ℤ) → Has (values_held listed.now bits.now shape ends) a → IsCovered into.old a }
+    ensures wide { IsAsWide into.old into.new }
+    ensures members { (a : ℤ) → IsTrue (members into.new a) ↔ (IsTrue (members into.old a) ⊎ Has (values_held listed.now bits.now shape ends) a) }
+{
+    if let Shape::Stretch(..) = shape {
+        into.insert_span(ends.lo, ends.hi);
+        return;
+    }
+    let mut value = ends.lo;
+    into.insert(value);
+    while value < ends.hi {
+        value = least_from(listed, bits, shape, ends, value + 1);
+        into.insert(value);
+    }
 }

@@ -1,12 +1,15 @@
 //! What changes of all sets.
-ghost use Rattle.std.specs.Prelude.{◌≡◌, ◌+◌, ◌*◌, ◌^◌, ◌<◌, ◌≤◌, length, replicate, slice_get, slice_set, Some, IfOk};
+ghost use Rattle.std.specs.Prelude.{◌≡◌, ◌+◌, ◌*◌, ◌^◌, ◌<◌, ◌≤◌, length, replicate, slice_get, slice_set, Some, IfOk, ℕ, ◌-◌, ◌&&◌, not, false};
 ghost use Rattle.std.specs.List.{AllByRecursion, AllZip};
+ghost use Rattle.mn_boxes.specs.Bits.{bit_of, count_from};
+ghost use Rattle.mn_domains.specs.Rows.{is_hit};
 ghost use Rattle.mn_domains.specs.Held.{IsFull, IsShape, TellsMoved, cleared, sizes};
 
 use super::layout::Layout;
+use super::rows::Row;
 use super::shape::{self, Ends, Shape};
-use mn_boxes::Moved;
-use mn_boxes::bits::{WIDTH, is_set};
+use mn_boxes::bits::{WIDTH, count, is_set};
+use mn_boxes::{Moved, ValueSet};
 use mn_model::VARIABLES;
 use std::alloc::{AllocError, Global};
 
@@ -22,7 +25,7 @@ pub struct State {
 }
 
 /// What moved where a set had the old ends and has the new ones.
-fn moved(old: Ends, new: Ends) -> Moved
+pub fn moved(old: Ends, new: Ends) -> Moved
     ensures { TellsMoved old new result }
 {
     Moved {
@@ -67,7 +70,7 @@ fn size_of_all(ends: &[Ends]) -> u64
 }
 
 impl State {
-    ghost use Rattle.mn_domains.specs.States.{IsFullState, Unmarks};
+    ghost use Rattle.mn_domains.specs.States.{IsFullState, Sieves, Unmarks};
 
     /// All that is declared.
     pub fn full(alloc: Global, layout: &Layout) -> Result<State, AllocError>
@@ -121,6 +124,41 @@ impl State {
         self.clear(bit);
         let size = old.size - 1;
         self.put(i, old, Ends { size, ..old })
+    }
+
+    /// Takes the values of variable `i` out that fail. The row is that of its values, and `least` and `greatest` are the ends of
+    /// what is left.
+    pub fn sieve(
+        &mut self,
+        i: usize,
+        old: Ends,
+        row: Row,
+        least: i64,
+        greatest: i64,
+        set: &ValueSet,
+        wanted: bool,
+    ) -> Moved
+        requires here { slice_get self.old.ends.items i ≡ Some old }
+        requires order { row.from ≤ row.to }
+        requires room { row.to < 64 * length self.old.bits.items }
+        requires plain { row.full ≡ false }
+        requires short { row.to < 2 ^ 60 }
+        requires small { row.to + row.raise < 2 ^ 62 }
+        requires all { old.size ≡ count_from (bit_of self.old.bits.items) row.from (row.to + 1 - row.from) }
+        requires counted { old.size ≤ self.old.left }
+        ensures words { length self.new.bits.items ≡ length self.old.bits.items }
+        ensures bits { (k : ℕ) → bit_of self.new.bits.items k ≡ (bit_of self.old.bits.items k && not (is_hit self.old.bits.items row set.now (not wanted) k)) }
+        ensures put { Sieves self.old self.new i old row least greatest result }
+    {
+        row.keep_hits(&mut self.bits, set, wanted);
+        let size = count(self.bits.as_slice(), row.from, row.to + 1) as u64;
+        let new = Ends {
+            lo: least,
+            hi: greatest,
+            size,
+            place: old.place,
+        };
+        self.put(i, old, new)
     }
 
     /// The same sets, in memory of their own.
