@@ -1,6 +1,5 @@
 -- A value that is taken out of a place, and places that differ.
-use Rattle.std.proofs.Common.{◌≡◌, ◌≢◌, ℕ, ℤ, pos, ◌-ℤ◌, ◌⊎◌, inl, inr, Bool, true, false, not, IsTrue, List, Result, Ok, Err, OnOk, refl, sym, subst, ap, ◌∙◌, true≢false}
-use Rattle.std.specs.Ordering.{int_eq}
+use Rattle.std.proofs.Common.{◌≡◌, ◌≢◌, ℕ, ℤ, pos, ◌-ℤ◌, ◌⊎◌, inl, inr, IsTrue, List, Result, Ok, Err, OnOk, refl, sym, subst, ◌∙◌}
 use Rattle.mn_model.specs.Decided.{Decided, decide_int}
 use Rattle.mn_model.specs.Domain.{Has}
 use Rattle.mn_model.specs.Variable.{number_of}
@@ -18,16 +17,15 @@ use Rattle.mn_closure.specs.Levels.{Arc, Hull}
 use Rattle.mn_closure.specs.Supports.{IsOpen}
 use Rattle.mn_closure.proofs.Wider.{wider_place}
 use Rattle.mn_domains.specs.Changes.{is_not}
-use Rattle.mn_domains.proofs.Filtered.{eq_so, is_not_so, is_not_true}
-use Rattle.mn_prop.specs.Contexts.{ChangedAt, Context, IsChange, IsNamed, MayGoAt, SomePasses, box_of, kept_at, vars_of}
+use Rattle.mn_domains.proofs.Filtered.{is_not_so, is_not_true}
+use Rattle.mn_prop.specs.Contexts.{ChangedAt, Context, IsNamed, MayGoAt, box_of, vars_of}
 use Rattle.mn_prop.specs.Losses.{Unsupported}
-use Rattle.mn_prop.specs.Passes.{AllPass, IsStep}
+use Rattle.mn_prop.specs.Passes.{IsStep}
 use Rattle.mn_prop.specs.Posts.{IsReady, beside}
 use Rattle.mn_prop.specs.declared.context.Fail.{Fail}
-use Rattle.mn_prop.proofs.Boxing.{kept_passes}
 use Rattle.mn_prop.proofs.Ended.{least_of}
-use Rattle.mn_prop.proofs.PlaceLemmas.{back}
-use Rattle.mn_prop.proofs.Stepping.{as_step, box_again, by_rule, change_step, changed_box, goes_inside, same_vars}
+use Rattle.mn_prop.proofs.Revisions.{taken_alone}
+use Rattle.mn_prop.proofs.Stepping.{as_step, box_again, by_rule, change_passes, change_step, goes_inside, same_vars}
 use Rattle.mn_basic.specs.Binaries.{EachAsked, SomeAt}
 use Rattle.mn_basic.specs.Losses.{ThatAt}
 use Rattle.mn_basic.proofs.Binary.{IsBinary, closed_first, closed_second, closed_two, first_named, no_first, no_second, second_named}
@@ -60,23 +58,6 @@ asked_goes : (vars : List Variable) (box : List (List ℤ)) (t : Term) (a : ℤ)
 asked_goes vars box (Var v) a asked = λ bounded has. asked.ends (inl bounded)
 asked_goes vars box (Const k) a asked = tt
 asked_goes vars box (Not v) a asked = λ bounded has. asked.ends (inl bounded)
-
--- what isn't another value is the value
-taken_alone : (a b : ℤ) → is_not a b ≡ false → b ≡ a
-taken_alone a b e = by (int_eq b a) refl
-  where
-    by : (t : Bool) → int_eq b a ≡ t → b ≡ a
-    by true same = eq_so b a same
-    by false differs = absurd (true≢false (sym (ap not differs) ∙ e))
-
--- all values that are left after a change pass
-kept_all : (p : ℤ → Bool) (t : Term) (sets : List (List ℤ)) → SomePasses p t sets → AllPass p t (kept_at p t sets)
-kept_all p (Var v) sets some a has = kept_passes p (number_of v) sets a has
-kept_all p (Const k) sets some a has = ap p (sym has ∙ some.there) ∙ some.passes
-kept_all p (Not v) sets some a has = ap p (sym (back a)) ∙ kept_passes (λ b. p (pos 1 -ℤ b)) (number_of v) sets (pos 1 -ℤ a) has
-
-pub change_passes : (p : ℤ → Bool) (t : Term) (old new : Context) → IsChange p t old new → AllPass p t (box_of new)
-change_passes p t old new change = subst (AllPass p t) (sym (changed_box change)) (kept_all p t (box_of old) change.some)
 
 -- ---- one value
 

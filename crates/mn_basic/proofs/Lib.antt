@@ -1,6 +1,5 @@
 pub mod Binary
 pub mod Dropped
-pub mod Kept
 pub mod Numbered
 pub mod Ordered
 pub mod Reached

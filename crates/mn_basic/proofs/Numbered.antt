@@ -1,5 +1,5 @@
 -- What is supported of a constraint of one place.
-use Rattle.std.proofs.Common.{◌≡◌, ◌≢◌, ◌↔◌, ℕ, zero, suc, ◌<◌, ℤ, ◌≤ℤ◌, Bool, IsTrue, List, [], ◌∷◌, length, slice_get, Some, Result, refl, sym, subst, ap, ◌∙◌, arith}
+use Rattle.std.proofs.Common.{◌≡◌, ◌≢◌, ◌↔◌, ℕ, zero, suc, ◌<◌, ℤ, ◌≤ℤ◌, Bool, IsTrue, List, [], ◌∷◌, length, slice_get, Some, Result, Ok, Err, OnOk, true, false, refl, sym, subst, ap, ◌∙◌, true≢false, arith}
 use Rattle.std.proofs.lemmas.Int.{ints}
 use Rattle.mn_model.specs.Parts.{places}
 use Rattle.mn_model.specs.declared.constraint.Term.{Term}
@@ -25,10 +25,11 @@ use Rattle.mn_prop.proofs.Stepping.{as_step, by_rule}
 use Rattle.mn_basic.specs.Binaries.{EachAsked}
 use Rattle.mn_basic.specs.Intervals.{AllIn, IsIn, OutOf}
 use Rattle.mn_basic.specs.Losses.{ThatAt}
-use Rattle.mn_basic.specs.Unaries.{IsOneOf, literal_of}
+use Rattle.mn_basic.specs.Unaries.{IsOneOf, in_one_change, literal_of}
 use Rattle.mn_basic.specs.declared.interval.Interval.{Interval}
 use Rattle.mn_basic.specs.declared.numbers.Numbers.{Numbers}
 use Rattle.mn_basic.specs.declared.numbers.Numbers.TheVariants.{Is, IsNot, Among, NotAmong, Between, NotBetween, Within}
+use Rattle.mn_basic.proofs.Reached.{between}
 
 literal_level : (n : Numbers) (x : Term) → level (literal_of n x) ≡ Arc
 literal_level (Is k) x = refl
@@ -116,9 +117,6 @@ one_told n x lists (suc i) a box m within there tells = let one = ap length (lit
 
 -- ---- steps
 
-between : (s : Interval) (low high a : ℤ) → IsIn s low → IsIn s high → low ≤ℤ a → a ≤ℤ high → IsIn s a
-between s low high a one another from to = (let le = one.0 in omega (arith, ints, le, from), let le = another.1 in omega (arith, ints, le, to))
-
 -- where the ends of a place are in an interval, all of it is
 all_in : (n : Numbers) (x : Term) (lists : List Tuples) (vars : List Variable) (box : List (List ℤ)) (s : Interval) → IsBox vars box → IsReady vars lists (literal_of n x) → ((b : ℤ) → PlaceHas box x b → IsOneOf n b → IsIn s b) → LeafClosed vars lists (literal_of n x) box → AllIn s x box
 all_in n x lists vars box s is ready within closed a has =
@@ -127,6 +125,14 @@ all_in n x lists vars box s is ready within closed a has =
     let great = greatest_of Arc vars box x is named in
     let each = closed_literal n x lists vars box closed in
     between s least.value great.value a (within least.value least.least.there (each least.value least.asked)) (within great.value great.greatest.there (each great.value great.asked)) (least.least.least a has) (great.greatest.greatest a has)
+
+-- the numbers of an interval
+module _ (n : Numbers) (s : Interval) where
+  is_within : (k : ℤ) → n ≡ Is k → s.lo ≡ k → s.hi ≡ k → (b : ℤ) → IsIn s b → IsOneOf n b
+  is_within k is is_lo is_hi b both = let from = both.0 in let to = both.1 in subst (λ m. IsOneOf m b) (sym is) (omega (arith, ints, from, to, is_lo, is_hi))
+
+  between_within : (lo hi : ℤ) → n ≡ Between lo hi → s.lo ≡ lo → s.hi ≡ hi → (b : ℤ) → IsIn s b → IsOneOf n b
+  between_within lo hi is is_lo is_hi b both = let from = both.0 in let to = both.1 in subst (λ m. IsOneOf m b) (sym is) (omega (arith, ints, from, is_lo), omega (arith, ints, to, is_hi))
 
 module _ (n : Numbers) (x : Term) (lists : List Tuples) (s : Interval) (old new : Context) (result : Result (Unit {0}) Fail) (ready : IsReady (vars_of old) lists (literal_of n x)) where
   pub reach_narrows : (own : Interval) (lo hi : ℤ) → IsLeastAt (box_of old) x lo → IsGreatestAt (box_of old) x hi → own.lo ≡ lo → own.hi ≡ hi → ((b : ℤ) → IsOneOf n b → IsIn own b → IsIn s b) → IsStep (OutOf s x) (AllIn s x) old new result
@@ -150,14 +156,12 @@ module _ (n : Numbers) (x : Term) (lists : List Tuples) (s : Interval) (old new 
       (by_rule (λ box i u a has out. none_of_them n x lists box u a out.0 (λ one. out.1 (within a one))) step)
 
   pub is_step : (k : ℤ) → n ≡ Is k → s.lo ≡ k → s.hi ≡ k → IsStep (OutOf s x) (AllIn s x) old new result → IsStep (Unsupported (beside lists (literal_of n x))) (LeafClosed (vars_of old) lists (literal_of n x)) old new result
-  is_step k is is_lo is_hi step = interval_step
-      (λ b one. (let same : b ≡ k = subst (λ m. IsOneOf m b) is one in (omega (arith, ints, same, is_lo), omega (arith, ints, same, is_hi))))
-      (λ b both. (let from = both.0 in let to = both.1 in subst (λ m. IsOneOf m b) (sym is) (omega (arith, ints, from, to, is_lo, is_hi)))) step
+  is_step k is is_lo is_hi step = interval_step (λ b one. (let same : b ≡ k = subst (λ m. IsOneOf m b) is one in (omega (arith, ints, same, is_lo), omega (arith, ints, same, is_hi)))) (is_within n s k is is_lo is_hi) step
 
   pub between_step : (lo hi : ℤ) → n ≡ Between lo hi → s.lo ≡ lo → s.hi ≡ hi → IsStep (OutOf s x) (AllIn s x) old new result → IsStep (Unsupported (beside lists (literal_of n x))) (LeafClosed (vars_of old) lists (literal_of n x)) old new result
   between_step lo hi is is_lo is_hi step = interval_step
       (λ b one. (let both : (lo ≤ℤ b) × (b ≤ℤ hi) = subst (λ m. IsOneOf m b) is one in let from = both.0 in let to = both.1 in (omega (arith, ints, from, is_lo), omega (arith, ints, to, is_hi))))
-      (λ b both. (let from = both.0 in let to = both.1 in subst (λ m. IsOneOf m b) (sym is) (omega (arith, ints, from, is_lo), omega (arith, ints, to, is_hi)))) step
+      (between_within n s lo hi is is_lo is_hi) step
 
 module _ (n : Numbers) (x : Term) (lists : List Tuples) (old new : Context) (result : Result (Unit {0}) Fail) where
   pub not_step : (k : ℤ) → n ≡ IsNot k → IsStep (ThatAt x k) (EachAsked (vars_of old) x (λ b. b ≢ k)) old new result → IsStep (Unsupported (beside lists (literal_of n x))) (LeafClosed (vars_of old) lists (literal_of n x)) old new result
@@ -165,3 +169,29 @@ module _ (n : Numbers) (x : Term) (lists : List Tuples) (old new : Context) (res
       as_step (λ box lawful i closed a asked. subst (λ m. IsOneOf m a) is (closed_literal n x lists (vars_of old) box closed a asked))
       (λ each. literal_closed n x lists (vars_of old) (box_of old) (λ a asked. subst (λ m. IsOneOf m a) (sym is) (each a asked)))
       (by_rule (λ box i u a has that. none_of_them n x lists box u a that.0 (λ one. (let other : a ≢ k = subst (λ m. IsOneOf m a) is one in other that.1))) step)
+
+-- ---- after a pass
+
+-- the box is closed
+abbrev ClosedAfter : Numbers → Term → List Tuples → List Variable → List (List ℤ) → Result (Unit {0}) Fail → Type 0
+ClosedAfter n x lists vars box result = OnOk result (in_one_change n ≡ true → LeafClosed vars lists (literal_of n x) box)
+
+module _ (n : Numbers) (x : Term) (lists : List Tuples) (vars : List Variable) (box : List (List ℤ)) where
+  interval_settles : (s : Interval) (result : Result (Unit {0}) Fail) → ((b : ℤ) → IsIn s b → IsOneOf n b) → OnOk result (AllIn s x box) → ClosedAfter n x lists vars box result
+  interval_settles s (Ok done) only all = λ e. literal_closed n x lists vars box (λ a asked. only a (all a asked.there))
+  interval_settles s (Err fail) only none = tt
+
+  pub is_settles : (s : Interval) (k : ℤ) (result : Result (Unit {0}) Fail) → n ≡ Is k → s.lo ≡ k → s.hi ≡ k → OnOk result (AllIn s x box) → ClosedAfter n x lists vars box result
+  is_settles s k result is is_lo is_hi all = interval_settles s result (is_within n s k is is_lo is_hi) all
+
+  pub between_settles : (s : Interval) (lo hi : ℤ) (result : Result (Unit {0}) Fail) → n ≡ Between lo hi → s.lo ≡ lo → s.hi ≡ hi → OnOk result (AllIn s x box) → ClosedAfter n x lists vars box result
+  between_settles s lo hi result is is_lo is_hi all = interval_settles s result (between_within n s lo hi is is_lo is_hi) all
+
+  pub not_settles : (k : ℤ) (result : Result (Unit {0}) Fail) → n ≡ IsNot k → OnOk result (EachAsked vars x (λ b. b ≢ k) box) → ClosedAfter n x lists vars box result
+  not_settles k (Ok done) is each = λ e. literal_closed n x lists vars box (λ a asked. subst (λ m. IsOneOf m a) (sym is) (each a asked))
+  not_settles k (Err fail) is none = tt
+
+  -- of other numbers nothing is said
+  pub other_settles : (result : Result (Unit {0}) Fail) → in_one_change n ≡ false → ClosedAfter n x lists vars box result
+  other_settles (Ok done) other = λ e. absurd (true≢false (sym e ∙ other))
+  other_settles (Err fail) other = tt

@@ -18,13 +18,12 @@ use Rattle.mn_prop.specs.Posts.{IsReady, beside}
 use Rattle.mn_prop.specs.declared.context.Fail.{Fail}
 use Rattle.mn_prop.proofs.Ended.{greatest_of, least_of}
 use Rattle.mn_prop.proofs.Narrowing.{high_step, low_step}
-use Rattle.mn_prop.proofs.Stepping.{as_step, by_rule, changed_box, changed_vars, failing, goes_inside, stop_step, then_step}
+use Rattle.mn_prop.proofs.Stepping.{as_step, by_rule, change_passes, changed_box, changed_vars, failing, goes_inside, stop_step, then_step}
 use Rattle.mn_basic.specs.Binaries.{IsOrdered, order_of, slack_of}
 use Rattle.mn_basic.specs.declared.ineq.Order.{Order}
 use Rattle.mn_basic.specs.declared.ineq.Order.TheVariants.{AtMost, Below}
 use Rattle.mn_basic.proofs.Binary.{IsBinary, closed_first, closed_second, closed_two, first_named, no_first, no_second, second_named}
-use Rattle.mn_basic.proofs.Dropped.{change_passes}
-use Rattle.mn_basic.proofs.Kept.{stays_at, stays_here}
+use Rattle.mn_prop.proofs.Kept.{stays_at, stays_here}
 
 pub is_order : (o : Order) (x y : Term) → IsBinary (order_of o x y) x y (λ a b. a ≤ℤ (b +ℤ slack_of o))
 is_order (AtMost k) x y = record { arc = refl; two = refl; meets = λ lists a b m. m; met = λ lists a b m. m }

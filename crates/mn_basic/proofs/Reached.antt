@@ -12,6 +12,10 @@ use Rattle.mn_basic.specs.declared.interval.Interval.{Interval}
 pub spans : (s : Interval) (lo hi : ℤ) → s.lo ≡ lo → s.hi ≡ hi → (b : ℤ) → lo ≤ℤ b → b ≤ℤ hi → IsIn s b
 spans s lo hi is_lo is_hi b from to = (omega (arith, ints, from, is_lo), omega (arith, ints, to, is_hi))
 
+-- and what is between two of its numbers
+pub between : (s : Interval) (low high a : ℤ) → IsIn s low → IsIn s high → low ≤ℤ a → a ≤ℤ high → IsIn s a
+between s low high a one another from to = (let le = one.0 in omega (arith, ints, le, from), let le = another.1 in omega (arith, ints, le, to))
+
 -- a number of what is left is the first of it, or behind it
 has_left : (ks : List ℤ) (i : ℕ) (d b : ℤ) → i < length ks → Has (drop i ks) b → (get_or ks i d ≡ b) ⊎ Has (drop (i + 1) ks) b
 has_left ks i d b below has = subst (λ xs. Has xs b) (drop_more ks i d below) has

@@ -20,7 +20,7 @@ use Rattle.mn_prop.specs.Posts.{HasAt, IsReady, beside}
 use Rattle.mn_prop.specs.declared.context.Fail.{Fail}
 use Rattle.mn_prop.proofs.Ended.{greatest_of, least_of}
 use Rattle.mn_prop.proofs.Narrowing.{high_step, low_step, narrows_as}
-use Rattle.mn_prop.proofs.Stepping.{as_step, by_rule, changed_vars, goes_inside, stop_step, then_step}
+use Rattle.mn_prop.proofs.Stepping.{as_step, by_rule, change_passes, changed_vars, goes_inside, stop_step, then_step}
 use Rattle.mn_basic.specs.Binaries.{SomeAt}
 use Rattle.mn_basic.specs.Intervals.{AllIn, IsIn, IsSmall, OutOf}
 use Rattle.mn_basic.specs.Ties.{IsTied, tie_of}
@@ -28,8 +28,8 @@ use Rattle.mn_basic.specs.declared.interval.Interval.{Interval}
 use Rattle.mn_basic.specs.declared.tie.Tie.{Tie}
 use Rattle.mn_basic.specs.declared.tie.Tie.TheVariants.{Equal, Opposite, Absolute}
 use Rattle.mn_basic.proofs.Binary.{IsBinary, closed_first, closed_second, first_named, first_partner, first_stands, no_first, no_second, second_named, second_partner, second_stands, two_supported}
-use Rattle.mn_basic.proofs.Dropped.{change_passes}
-use Rattle.mn_basic.proofs.Kept.{near_at}
+use Rattle.mn_prop.proofs.Kept.{near_at}
+use Rattle.mn_basic.proofs.Reached.{between}
 
 -- ---- cuts
 
@@ -54,10 +54,6 @@ module _ (s : Interval) (t : Term) where
       let two : IsStep (OutOf s t) (AtMostAt t s.hi) mid new (Ok done) = high_out (subst (λ vars. IsNamed vars t) (sym (changed_vars first)) named) second in
       (le_so s.lo a (change_passes (λ d. int_le s.lo d) t old mid first a (wider_place (box_of new) (box_of mid) (goes_inside two.loses) t a has)), le_so a s.hi (change_passes (λ d. int_le d s.hi) t mid new second a has))
   keep_settles old mid new (Err fail) named first second = tt
-
--- all between two values of an interval is in it
-between : (s : Interval) (low high a : ℤ) → IsIn s low → IsIn s high → low ≤ℤ a → a ≤ℤ high → IsIn s a
-between s low high a one another from to = (let le = one.0 in omega (arith, ints, le, from), let le = another.1 in omega (arith, ints, le, to))
 
 -- ---- support
 

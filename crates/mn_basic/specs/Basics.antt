@@ -4,7 +4,7 @@ use Rattle.mn_prop.specs.Forwards.{checked}
 use Rattle.mn_prop.specs.Posts.{Posted}
 use Rattle.mn_basic.specs.Binaries.{differ_of, ineq_of}
 use Rattle.mn_basic.specs.Ties.{tied_of}
-use Rattle.mn_basic.specs.Unaries.{unary_of}
+use Rattle.mn_basic.specs.Unaries.{in_one_change, unary_of}
 use Rattle.mn_basic.specs.declared.basic.Basic.{Basic}
 use Rattle.mn_basic.specs.declared.basic.Basic.TheVariants.{Differ, Ineq, Tied, Unary, Forward}
 
@@ -20,5 +20,5 @@ abbrev pub rests_of : Basic → Bool
 rests_of (Differ d) = true
 rests_of (Ineq i) = true
 rests_of (Tied t) = false
-rests_of (Unary u) = false
+rests_of (Unary u) = in_one_change u.numbers
 rests_of (Forward f) = false

@@ -1,5 +1,5 @@
 -- Constraints of one place.
-use Rattle.std.specs.Prelude.{◌≡◌, ◌≢◌, ℤ, ◌≤ℤ◌}
+use Rattle.std.specs.Prelude.{◌≡◌, ◌≢◌, ℤ, ◌≤ℤ◌, Bool, true, false}
 use Rattle.mn_model.specs.Domain.{Has}
 use Rattle.mn_model.specs.declared.constraint.Con.{Con}
 use Rattle.mn_model.specs.declared.constraint.Con.TheVariants as con
@@ -32,3 +32,13 @@ IsOneOf (NotAmong ks) a = Has ks.now a → ⊥
 IsOneOf (Between lo hi) a = (lo ≤ℤ a) × (a ≤ℤ hi)
 IsOneOf (NotBetween lo hi) a = (lo ≤ℤ a) × (a ≤ℤ hi) → ⊥
 IsOneOf (Within ends) a = InIntervals ends.now a
+
+-- whether one change of a place leaves them alone: a single number, all numbers but one, or an interval
+abbrev pub in_one_change : Numbers → Bool
+in_one_change (Is k) = true
+in_one_change (IsNot k) = true
+in_one_change (Among ks) = false
+in_one_change (NotAmong ks) = false
+in_one_change (Between lo hi) = true
+in_one_change (NotBetween lo hi) = false
+in_one_change (Within ends) = false

@@ -1,6 +1,7 @@
 //! What narrows one constraint.
 ghost use Rattle.std.specs.Prelude.{◌≡◌, IfOk, OnOk, true};
 ghost use Rattle.mn_prop.specs.Contexts.{box_of, vars_of};
+ghost use Rattle.mn_prop.specs.Footings.{no_footing};
 ghost use Rattle.mn_prop.specs.Losses.{Unsupported};
 ghost use Rattle.mn_prop.specs.Passes.{IsStep};
 ghost use Rattle.mn_prop.specs.Posts.{ClosedUnderLeaf, IsReadyToRun, beside};
@@ -103,6 +104,8 @@ impl Basic<'_> {
 impl Scoped for Basic<'_> {
     ghost posted = { posted_of };
 
+    ghost footing = { λ b. no_footing };
+
     fn places(&self) -> usize {
         match self {
             Basic::Differ(d) => d.places(),
@@ -130,7 +133,8 @@ impl Runner for Basic<'_> {
     fn settles(&self) -> bool {
         match self {
             Basic::Differ(_) | Basic::Ineq(_) => true,
-            Basic::Tied(_) | Basic::Unary(_) | Basic::Forward(_) => false,
+            Basic::Unary(u) => u.numbers.in_one_change(),
+            Basic::Tied(_) | Basic::Forward(_) => false,
         }
     }
 

@@ -1,6 +1,7 @@
 //! Two places that differ: `diseq`.
 ghost use Rattle.std.specs.Prelude.{◌≢◌, OnOk};
 ghost use Rattle.mn_prop.specs.Contexts.{IsNamed, box_of, vars_of};
+ghost use Rattle.mn_prop.specs.Footings.{no_footing};
 ghost use Rattle.mn_prop.specs.Losses.{Unsupported};
 ghost use Rattle.mn_prop.specs.Passes.{IsStep};
 ghost use Rattle.mn_prop.specs.Posts.{ClosedUnderLeaf, IsReadyToRun};
@@ -57,6 +58,8 @@ impl Scoped for Differ<'_> {
     ghost use Rattle.mn_basic.specs.Binaries.{differ_of};
 
     ghost posted = { differ_of };
+
+    ghost footing = { λ s. no_footing };
 
     fn places(&self) -> usize {
         2

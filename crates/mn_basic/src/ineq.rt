@@ -2,6 +2,7 @@
 ghost use Rattle.std.specs.Prelude.{◌≡◌, ◌↔◌, ◌+ℤ◌, ◌-ℤ◌, ◌<ℤ◌, IsTrue, OnOk, pos};
 ghost use Rattle.mn_model.specs.Lawful.{IsNear};
 ghost use Rattle.mn_prop.specs.Contexts.{IsNamed, box_of, vars_of};
+ghost use Rattle.mn_prop.specs.Footings.{no_footing};
 ghost use Rattle.mn_prop.specs.Losses.{Unsupported};
 ghost use Rattle.mn_prop.specs.Passes.{IsStep};
 ghost use Rattle.mn_prop.specs.Posts.{ClosedUnderLeaf, IsReadyToRun};
@@ -90,6 +91,8 @@ impl Scoped for Ineq<'_> {
     ghost use Rattle.mn_basic.specs.Binaries.{ineq_of};
 
     ghost posted = { ineq_of };
+
+    ghost footing = { λ s. no_footing };
 
     fn places(&self) -> usize {
         2

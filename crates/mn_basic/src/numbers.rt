@@ -1,10 +1,11 @@
 //! The numbers that a constraint of one place lets stand, and how far they reach.
-ghost use Rattle.std.specs.Prelude.{◌↔◌, ◌≤ℤ◌, IsTrue, ℤ};
+ghost use Rattle.std.specs.Prelude.{◌≡◌, ◌↔◌, IsTrue, ℤ};
 ghost use Rattle.mn_model.specs.Domain.{Has};
 ghost use Rattle.mn_meaning.specs.Families.{InIntervals};
 ghost use Rattle.mn_basic.specs.Intervals.{IsIn};
 
 use crate::interval::Interval;
+use mn_meaning::{in_intervals, is_between, is_in};
 use mn_model::Ints;
 
 /// Numbers that a place may have.
@@ -27,7 +28,7 @@ pub enum Numbers<'a> {
 }
 
 impl Numbers<'_> {
-    ghost use Rattle.mn_basic.specs.Unaries.{IsOneOf};
+    ghost use Rattle.mn_basic.specs.Unaries.{IsOneOf, in_one_change};
 
     /// Whether `a` is one of them.
     pub(crate) fn contains(&self, a: i64) -> bool
@@ -41,6 +42,17 @@ impl Numbers<'_> {
             Numbers::Between(lo, hi) => is_between(a, *lo, *hi),
             Numbers::NotBetween(lo, hi) => !is_between(a, *lo, *hi),
             Numbers::Within(ends) => in_intervals(ends, a),
+        }
+    }
+
+    /// Whether one change of a place leaves them alone.
+    pub(crate) fn in_one_change(&self) -> bool
+        ensures { result ≡ in_one_change self.now }
+    {
+        match self {
+            Numbers::Is(_) | Numbers::IsNot(_) | Numbers::Between(_, _) => true,
+            Numbers::Among(_) | Numbers::NotAmong(_) => false,
+            Numbers::NotBetween(_, _) | Numbers::Within(_) => false,
         }
     }
 
@@ -58,33 +70,6 @@ impl Numbers<'_> {
             Numbers::Within(ends) => reach_across(ends, own),
         }
     }
-}
-
-fn is_in(ks: &Ints, a: i64) -> bool
-    ensures { IsTrue result ↔ Has ks.now a }
-{
-    ks.as_slice().contains(&a)
-}
-
-fn is_between(a: i64, lo: i64, hi: i64) -> bool
-    ensures { IsTrue result ↔ ((lo ≤ℤ a) × (a ≤ℤ hi)) }
-{
-    lo <= a && a <= hi
-}
-
-fn in_intervals(ends: &Ints, a: i64) -> bool
-    ensures { IsTrue result ↔ InIntervals ends.now a }
-{
-    let mut rest = ends.as_slice();
-    while rest.len() >= 2 {
-        let (first, others) = rest.split_at(2);
-        let (lo, hi) = (first[0], first[1]);
-        if is_between(a, lo, hi) {
-            return true;
-        }
-        rest = others;
-    }
-    false
 }
 
 // The part of the interval that reaches from the least to the greatest number of the list that is in it.

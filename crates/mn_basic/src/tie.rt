@@ -3,6 +3,7 @@ ghost use Rattle.std.specs.Prelude.{◌≡◌, ◌↔◌, ◌≤ℤ◌, IsTrue, 
 ghost use Rattle.std.proofs.Common.{nat_abs};
 ghost use Rattle.mn_model.specs.Lawful.{IsNear};
 ghost use Rattle.mn_prop.specs.Contexts.{IsNamed, box_of, vars_of};
+ghost use Rattle.mn_prop.specs.Footings.{no_footing};
 ghost use Rattle.mn_prop.specs.Losses.{Unsupported};
 ghost use Rattle.mn_prop.specs.Passes.{IsStep, Narrows};
 ghost use Rattle.mn_prop.specs.Posts.{ClosedUnderLeaf, IsReadyToRun};
@@ -205,6 +206,8 @@ impl Scoped for Tied<'_> {
     ghost use Rattle.mn_basic.specs.Ties.{tied_of};
 
     ghost posted = { tied_of };
+
+    ghost footing = { λ s. no_footing };
 
     fn places(&self) -> usize {
         2

@@ -1,6 +1,8 @@
 //! One place that has certain numbers: `w-literal`, `w-notliteral`, `w-inset`, `w-notinset`, `w-inrange`, `w-notinrange` and
 //! `w-inintervalset`.
-ghost use Rattle.mn_prop.specs.Contexts.{vars_of};
+ghost use Rattle.std.specs.Prelude.{◌≡◌, OnOk, true};
+ghost use Rattle.mn_prop.specs.Contexts.{box_of, vars_of};
+ghost use Rattle.mn_prop.specs.Footings.{no_footing};
 ghost use Rattle.mn_prop.specs.Losses.{Unsupported};
 ghost use Rattle.mn_prop.specs.Passes.{IsStep, Narrows};
 ghost use Rattle.mn_prop.specs.Posts.{ClosedUnderLeaf, IsReadyToRun};
@@ -20,12 +22,13 @@ pub struct Unary<'a> {
 }
 
 impl Unary<'_> {
-    ghost use Rattle.mn_basic.specs.Unaries.{unary_of};
+    ghost use Rattle.mn_basic.specs.Unaries.{in_one_change, unary_of};
 
     /// Takes values that aren't supported, or fails. Values at the ends go in one change.
     pub(crate) fn filter(&self, c: &mut Ctx) -> Result<(), Fail>
         requires { IsReadyToRun (vars_of c.old) (unary_of self.now) }
         ensures step { IsStep (Unsupported (unary_of self.now)) (ClosedUnderLeaf (vars_of c.old) (unary_of self.now)) c.old c.new result }
+        ensures settled { OnOk result (in_one_change self.now.numbers ≡ true → ClosedUnderLeaf (vars_of c.old) (unary_of self.now) (box_of c.new)) }
     {
         match &self.numbers {
             Numbers::Is(k) => Interval::of(*k, *k).keep(c, self.x),
@@ -61,6 +64,8 @@ impl Scoped for Unary<'_> {
     ghost use Rattle.mn_basic.specs.Unaries.{unary_of};
 
     ghost posted = { unary_of };
+
+    ghost footing = { λ s. no_footing };
 
     fn places(&self) -> usize {
         1

@@ -21,6 +21,12 @@ set_here [] v ys a has = absurd has
 set_here (xs ∷ sets) zero ys a has = has
 set_here (xs ∷ sets) (suc v) ys a has = set_here sets v ys a has
 
+-- what the new one has is there, where the old one has a value
+set_there : (sets : List (List ℤ)) (v : ℕ) (ys : List ℤ) (a b : ℤ) → Has (set_of sets v) b → Has ys a → Has (set_of (slice_set sets v ys) v) a
+set_there [] v ys a b old has = absurd old
+set_there (xs ∷ sets) zero ys a b old has = has
+set_there (xs ∷ sets) (suc v) ys a b old has = set_there sets v ys a b old has
+
 pub set_elsewhere : (sets : List (List ℤ)) (v w : ℕ) (ys : List ℤ) → (v ≡ w → ⊥) → set_of (slice_set sets v ys) w ≡ set_of sets w
 set_elsewhere [] v w ys differ = refl
 set_elsewhere (xs ∷ sets) zero zero ys differ = absurd (differ refl)
@@ -94,6 +100,15 @@ passing_inside p (Not v) box sets i pass =
 -- all that is kept passes
 pub kept_passes : (p : ℤ → Bool) (v : ℕ) (sets : List (List ℤ)) (a : ℤ) → Has (set_of (kept p v sets) v) a → p a ≡ true
 kept_passes p v sets a has = (has_filter p (set_of sets v) a (set_here sets v (filter p (set_of sets v)) a has)).passes
+
+-- and what passes is kept
+pub has_kept : (p : ℤ → Bool) (v : ℕ) (sets : List (List ℤ)) (a : ℤ) → Has (set_of sets v) a → p a ≡ true → Has (set_of (kept p v sets) v) a
+has_kept p v sets a has e = set_there sets v (filter p (set_of sets v)) a a has (filter_has p (set_of sets v) a has e)
+
+pub kept_at_passes : (p : ℤ → Bool) (t : Term) (sets : List (List ℤ)) (a : ℤ) → SomePasses p t sets → PlaceHas (kept_at p t sets) t a → p a ≡ true
+kept_at_passes p (Var v) sets a some has = kept_passes p (number_of v) sets a has
+kept_at_passes p (Const k) sets a some has = ap p (sym has ∙ some.there) ∙ some.passes
+kept_at_passes p (Not v) sets a some has = ap p (sym (back a)) ∙ kept_passes (λ b. p (pos 1 -ℤ b)) (number_of v) sets (pos 1 -ℤ a) has
 
 pub same_passes : (p : ℤ → Bool) (t : Term) (sets : List (List ℤ)) → SomePasses p t sets → kept_at p t sets ≡ sets → AllPass p t sets
 same_passes p (Var v) sets some same a has = kept_passes p (number_of v) sets a (subst (λ box. Has (set_of box (number_of v)) a) (sym same) has)

@@ -4,6 +4,7 @@ pub mod Changing
 pub mod Ended
 pub mod Flags
 pub mod Going
+pub mod Kept
 pub mod Narrowing
 pub mod PlaceLemmas
 pub mod Ready

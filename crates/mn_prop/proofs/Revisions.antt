@@ -113,7 +113,7 @@ no_inner vars sets t lo hi least great outer = inr (λ b has. by b has (outer b 
 
 -- ---- one value
 
-taken_alone : (a b : ℤ) → is_not a b ≡ false → b ≡ a
+pub taken_alone : (a b : ℤ) → is_not a b ≡ false → b ≡ a
 taken_alone a b e = eq_so b a (not-false (int_eq b a) e)
 
 -- to take a value out leaves fewer

@@ -8,7 +8,7 @@ use Rattle.mn_prop.specs.Contexts.{ChangedAt, Context, IsChange, IsNamed, Notes,
 use Rattle.mn_prop.specs.Losses.{Anything, Loses, nothing_goes, some_go}
 use Rattle.mn_prop.specs.Passes.{AllPass, IsStep, NoneHas, OnlyTakes}
 use Rattle.mn_prop.specs.declared.context.Fail.{Fail}
-use Rattle.mn_prop.proofs.Boxing.{all_at, few_at, inside_itself, inside_through, kept_inside, passing_inside, same_passes, some_value}
+use Rattle.mn_prop.proofs.Boxing.{all_at, few_at, inside_itself, inside_through, kept_at_passes, kept_inside, passing_inside, same_passes, some_value}
 
 abbrev pub Rules : Type 1
 Rules = List (List ℤ) → Term → ℤ → Type 0
@@ -26,6 +26,10 @@ changed_vars change = ap (λ (c : Context). vars_of c) change.is
 
 change_inside : {p : ℤ → Bool} {t : Term} {old new : Context} → IsChange p t old new → Inside (box_of new) (box_of old)
 change_inside {p = p} {t = t} {old = old} {new = new} change = subst (λ box. Inside box (box_of old)) (sym (changed_box change)) (kept_inside p t (box_of old))
+
+-- all values that are left at the place pass
+pub change_passes : (p : ℤ → Bool) (t : Term) (old new : Context) → IsChange p t old new → AllPass p t (box_of new)
+change_passes p t old new change = subst (AllPass p t) (sym (changed_box change)) (λ a has. kept_at_passes p t (box_of old) a change.some has)
 
 -- ---- values that go, one change after another
 

@@ -1,4 +1,5 @@
 pub mod Contexts
+pub mod Footings
 pub mod Forwards
 pub mod Losses
 pub mod Passes

@@ -3,6 +3,7 @@ ghost use Rattle.std.specs.Prelude.{◌≡◌, ◌↔◌, [], IfOk, IsTrue, Some
 ghost use Rattle.mn_model.specs.Parts.{places};
 ghost use Rattle.mn_closure.specs.Supports.{OtherOpen, Supported};
 ghost use Rattle.mn_prop.specs.Contexts.{box_of, vars_of};
+ghost use Rattle.mn_prop.specs.Footings.{no_footing};
 ghost use Rattle.mn_prop.specs.Losses.{Unsupported};
 ghost use Rattle.mn_prop.specs.Passes.{IsStep};
 ghost use Rattle.mn_prop.specs.Posts.{ClosedUnderLeaf, HasAt, IsReadyToRun, beside};
@@ -126,6 +127,8 @@ impl<'a> ForwardCheck<'a> {
 
 impl Scoped for ForwardCheck<'_> {
     ghost posted = { λ f. beside f.lists.now f.con.now };
+
+    ghost footing = { λ f. no_footing };
 
     fn places(&self) -> usize {
         self.terms.len()

@@ -5,6 +5,7 @@ ghost use Rattle.mn_boxes.specs.Boxes.{declared_variables};
 ghost use Rattle.mn_closure.specs.Supports.{StandsAt};
 ghost use Rattle.mn_domains.specs.Changes.{AddsFlags};
 ghost use Rattle.mn_prop.specs.Contexts.{box_of, vars_of};
+ghost use Rattle.mn_prop.specs.Footings.{Footing};
 ghost use Rattle.mn_prop.specs.Losses.{LetsGo};
 ghost use Rattle.mn_prop.specs.Passes.{IsStep};
 ghost use Rattle.mn_prop.specs.Posts.{ClosedUnder, IsReadyToRun, Posted, beside};
@@ -14,9 +15,11 @@ use mn_domains::Doms;
 use mn_model::{Con, Instance, Term};
 use std::alloc::{AllocError, Global};
 
-/// A constraint that was posted, and its scope: the terms at its places.
+/// A constraint that was posted, its scope, which is the terms at its places, and what the context keeps of it.
 pub trait Scoped {
     ghost posted: { Self → Posted };
+
+    ghost footing: { Self → Footing };
 
     /// How many places the constraint has.
     fn places(&self) -> usize
@@ -40,6 +43,7 @@ pub trait Runner: Scoped {
     fn pass(&mut self, c: &mut Ctx) -> Result<(), Fail>
         requires ready { IsReadyToRun (vars_of c.old) (Self.posted self.old) }
         ensures posted { Self.posted self.new ≡ Self.posted self.old }
+        ensures footing { Self.footing self.new ≡ Self.footing self.old }
         ensures rests { rests self.new ≡ rests self.old }
         // No value went that was supported when it went.
         ensures step { IsStep (LetsGo (Self.posted self.old)) (ClosedUnder (vars_of c.old) (Self.posted self.old)) c.old c.new result }

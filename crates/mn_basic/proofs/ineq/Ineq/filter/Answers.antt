@@ -7,7 +7,7 @@ use Rattle.mn_prop.specs.Contexts.{ChangedAt, IsChange, IsNamed, box_of, vars_of
 use Rattle.mn_prop.proofs.Stepping.{changed_vars}
 use Rattle.mn_basic.specs.Binaries.{order_of, slack_of}
 use Rattle.mn_basic.proofs.Binary.{first_named, first_stands, second_named, second_stands}
-use Rattle.mn_basic.proofs.Kept.{difference_fits, near_at, sum_fits}
+use Rattle.mn_prop.proofs.Kept.{near_at}
 use Rattle.mn_basic.proofs.Ordered.{is_order, none_below_itself, order_settles, order_step, order_stop, slack_near}
 use Rattle.mn_basic.proofs.ineq.Ineq.filter.Goals as goal
 

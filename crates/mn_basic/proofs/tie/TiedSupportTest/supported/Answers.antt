@@ -2,7 +2,7 @@ use Rattle.std.proofs.Common.{w64}
 use Rattle.std.proofs.lemmas.Int.{to_z-of_z}
 use Rattle.mn_prop.specs.Contexts.{box_of, vars_of}
 use Rattle.mn_basic.specs.Ties.{tie_of}
-use Rattle.mn_basic.proofs.Kept.{near_at}
+use Rattle.mn_prop.proofs.Kept.{near_at}
 use Rattle.mn_basic.proofs.Tying.{first_at, first_told, is_tie, second_at, second_told}
 use Rattle.mn_basic.proofs.tie.TiedSupportTest.supported.Goals as goal
 
