@@ -16,23 +16,12 @@ use Rattle.mn_closure.specs.Levels.{Arc, Hull}
 use Rattle.mn_closure.proofs.Wider.{wider_place}
 use Rattle.mn_domains.specs.Changes.{is_not}
 use Rattle.mn_domains.proofs.Filtered.{eq_so, is_not_so, is_not_true}
-use Rattle.mn_prop.specs.Contexts.{ChangedAt, Context, IsChange, IsNamed, MayGoAt, SomePasses, box_of, kept_at, vars_of}
-use Rattle.mn_prop.specs.Passes.{AllPass, IsStep}
+use Rattle.mn_prop.specs.Contexts.{ChangedAt, Context, IsChange, IsNamed, MayGoAt, box_of, vars_of}
+use Rattle.mn_prop.specs.Passes.{IsStep}
 use Rattle.mn_prop.specs.declared.context.Fail.{Fail}
-use Rattle.mn_prop.proofs.Boxing.{kept_passes}
 use Rattle.mn_prop.proofs.Narrowing.{high_step, low_step}
-use Rattle.mn_prop.proofs.PlaceLemmas.{back}
-use Rattle.mn_prop.proofs.Stepping.{as_step, by_rule, change_step, changed_box, changed_vars, goes_inside, stop_step, then_step}
+use Rattle.mn_prop.proofs.Stepping.{as_step, by_rule, change_passes, change_step, changed_vars, goes_inside, stop_step, then_step}
 use Rattle.mn_lex.specs.Pairs.{EachAsked, IsCut, IsOut, ThatAt}
-
--- all values that are left after a change pass
-kept_all : (p : ℤ → Bool) (t : Term) (sets : List (List ℤ)) → SomePasses p t sets → AllPass p t (kept_at p t sets)
-kept_all p (Var v) sets some a has = kept_passes p (number_of v) sets a has
-kept_all p (Const k) sets some a has = ap p (sym has ∙ some.there) ∙ some.passes
-kept_all p (Not v) sets some a has = ap p (sym (back a)) ∙ kept_passes (λ b. p (pos 1 -ℤ b)) (number_of v) sets (pos 1 -ℤ a) has
-
-change_passes : (p : ℤ → Bool) (t : Term) (old new : Context) → IsChange p t old new → AllPass p t (box_of new)
-change_passes p t old new change = subst (AllPass p t) (sym (changed_box change)) (kept_all p t (box_of old) change.some)
 
 -- ---- a pair of places
 

@@ -1,6 +1,7 @@
 //! Two vectors that differ: `watchvecneq`.
 ghost use Rattle.std.specs.Prelude.{◌≡◌, ◌≢◌, ◌<◌, OnOk, length};
 ghost use Rattle.mn_prop.specs.Contexts.{box_of, vars_of};
+ghost use Rattle.mn_prop.specs.Footings.{no_footing};
 ghost use Rattle.mn_prop.specs.Losses.{Unsupported};
 ghost use Rattle.mn_prop.specs.Passes.{IsStep};
 ghost use Rattle.mn_prop.specs.Posts.{ClosedUnderLeaf, IsReadyToRun};
@@ -77,6 +78,8 @@ impl Scoped for Apart<'_> {
     ghost use Rattle.mn_lex.specs.Lexicals.{apart_of};
 
     ghost posted = { apart_of };
+
+    ghost footing = { λ d. no_footing };
 
     fn places(&self) -> usize {
         self.v.as_slice().len() + self.w.as_slice().len()

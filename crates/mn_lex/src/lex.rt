@@ -1,6 +1,7 @@
 //! What narrows a constraint of two vectors.
 ghost use Rattle.std.specs.Prelude.{◌≡◌, OnOk, true};
 ghost use Rattle.mn_prop.specs.Contexts.{box_of, vars_of};
+ghost use Rattle.mn_prop.specs.Footings.{no_footing};
 ghost use Rattle.mn_prop.specs.Losses.{Unsupported};
 ghost use Rattle.mn_prop.specs.Passes.{IsStep};
 ghost use Rattle.mn_prop.specs.Posts.{ClosedUnderLeaf, IsReadyToRun, beside};
@@ -59,6 +60,8 @@ impl<'a> LexCon<'a> {
 
 impl Scoped for LexCon<'_> {
     ghost posted = { posted_of };
+
+    ghost footing = { λ n. no_footing };
 
     fn places(&self) -> usize {
         match self {

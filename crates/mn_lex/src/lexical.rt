@@ -1,6 +1,7 @@
 //! Two vectors in lexicographic order: `lexleq` and `lexless`.
 ghost use Rattle.std.specs.Prelude.{◌≡◌, ◌↔◌, ◌≤◌, ◌<◌, ◌+ℤ◌, ◌-ℤ◌, ◌<ℤ◌, IsTrue, Some, drop, length, negsuc, pos, slice_get};
 ghost use Rattle.mn_prop.specs.Contexts.{box_of, place_hi, place_lo, vars_of};
+ghost use Rattle.mn_prop.specs.Footings.{no_footing};
 ghost use Rattle.mn_prop.specs.Losses.{Unsupported};
 ghost use Rattle.mn_prop.specs.Passes.{IsStep};
 ghost use Rattle.mn_prop.specs.Posts.{ClosedUnderLeaf, IsReadyToRun};
@@ -102,6 +103,8 @@ impl Scoped for Lexical<'_> {
     ghost use Rattle.mn_lex.specs.Lexicals.{lexical_of};
 
     ghost posted = { lexical_of };
+
+    ghost footing = { λ l. no_footing };
 
     fn places(&self) -> usize {
         self.v.as_slice().len() + self.w.as_slice().len()
