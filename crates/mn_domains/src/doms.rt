@@ -182,16 +182,16 @@ impl Doms {
     {
         let i = v.number() as usize;
         let ends = self.current.ends[i];
+        let shape = self.shapes[i];
         if ends.hi < a {
             return Err(Emptied);
         }
-        let cut = shape::cut_low(
-            self.listed.as_slice(),
-            self.current.bits.as_slice(),
-            self.shapes[i],
-            ends,
-            a,
-        );
+        if a <= ends.lo {
+            return Ok(moved(ends, ends));
+        }
+        let listed = self.listed.as_slice();
+        let bits = self.current.bits.as_slice();
+        let cut = shape::cut_low(listed, bits, shape, ends, a);
         Ok(self.current.put(i, ends, cut))
     }
 
@@ -202,16 +202,16 @@ impl Doms {
     {
         let i = v.number() as usize;
         let ends = self.current.ends[i];
+        let shape = self.shapes[i];
         if a < ends.lo {
             return Err(Emptied);
         }
-        let cut = shape::cut_high(
-            self.listed.as_slice(),
-            self.current.bits.as_slice(),
-            self.shapes[i],
-            ends,
-            a,
-        );
+        if ends.hi <= a {
+            return Ok(moved(ends, ends));
+        }
+        let listed = self.listed.as_slice();
+        let bits = self.current.bits.as_slice();
+        let cut = shape::cut_high(listed, bits, shape, ends, a);
         Ok(self.current.put(i, ends, cut))
     }
 

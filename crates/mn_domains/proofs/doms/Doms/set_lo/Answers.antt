@@ -4,6 +4,8 @@ use Rattle.std.proofs.lemmas.Option.{slice_get_read}
 use Rattle.mn_model.specs.Variable.{number_of}
 use Rattle.mn_domains.proofs.Emptying.{emptied_from, size_less}
 use Rattle.mn_domains.proofs.Put.{PutAt, changed_put, kept_put}
+use Rattle.mn_domains.proofs.ShapeLemmas.{kept_low}
+use Rattle.mn_domains.proofs.Sifts.{rest_changed}
 use Rattle.mn_domains.proofs.Standing.{known, stands_at}
 use Rattle.mn_domains.proofs.doms.Doms.set_lo.Goals as goal
 
@@ -12,8 +14,8 @@ index-ends-requires c =
     let st = stands_at c.self.inside.listed.items c.self.inside.shapes.items c.self.inside.current c.self.inside.saved.items c.args.self.now (number_of c.args.v) c.self.view_is c.self.invariant c.requires in
     omega (arith, st.in_ends, c.self.inside.current.ends.ok.0, c.number-i.ensures)
 
-pub index-requires : goal.index-requires
-index-requires c =
+pub index-shape-requires : goal.index-shape-requires
+index-shape-requires c =
     let st = stands_at c.self.inside.listed.items c.self.inside.shapes.items c.self.inside.current c.self.inside.saved.items c.args.self.now (number_of c.args.v) c.self.view_is c.self.invariant c.requires in
     omega (arith, st.in_shapes, c.self.inside.shapes.ok.0, c.number-i.ensures)
 
@@ -22,13 +24,13 @@ returns-then-ends-a c = (emptied_from c.self.inside.listed.items c.self.inside.s
 
 pub cut_low-cut-requires-clause-shape : goal.cut_low-cut-requires-clause-shape
 cut_low-cut-requires-clause-shape c =
-    let k = known c.self.inside.listed.items c.self.inside.shapes.items c.self.inside.current c.self.inside.saved.items c.args.self.now (number_of c.args.v) c.index.result.now c.index-ends.result.now c.self.view_is c.self.invariant c.requires (rw c.number-i.ensures at c.index.ensures) (rw c.number-i.ensures at c.index-ends.ensures) in
-    rw (c.as_slice.ensures.value, c.as_slice-2.ensures.value) k.shaped
+    let k = known c.self.inside.listed.items c.self.inside.shapes.items c.self.inside.current c.self.inside.saved.items c.args.self.now (number_of c.args.v) c.index-shape.result.now c.index-ends.result.now c.self.view_is c.self.invariant c.requires (rw c.number-i.ensures at c.index-shape.ensures) (rw c.number-i.ensures at c.index-ends.ensures) in
+    rw (c.as_slice-listed.ensures.value, c.as_slice-bits.ensures.value) k.shaped
 
 pub cut_low-cut-requires-clause-held : goal.cut_low-cut-requires-clause-held
 cut_low-cut-requires-clause-held c =
-    let k = known c.self.inside.listed.items c.self.inside.shapes.items c.self.inside.current c.self.inside.saved.items c.args.self.now (number_of c.args.v) c.index.result.now c.index-ends.result.now c.self.view_is c.self.invariant c.requires (rw c.number-i.ensures at c.index.ensures) (rw c.number-i.ensures at c.index-ends.ensures) in
-    rw (c.as_slice.ensures.value, c.as_slice-2.ensures.value) k.held
+    let k = known c.self.inside.listed.items c.self.inside.shapes.items c.self.inside.current c.self.inside.saved.items c.args.self.now (number_of c.args.v) c.index-shape.result.now c.index-ends.result.now c.self.view_is c.self.invariant c.requires (rw c.number-i.ensures at c.index-shape.ensures) (rw c.number-i.ensures at c.index-ends.ensures) in
+    rw (c.as_slice-listed.ensures.value, c.as_slice-bits.ensures.value) k.held
 
 pub put-requires-clause-here : goal.put-requires-clause-here
 put-requires-clause-here c =
@@ -37,28 +39,35 @@ put-requires-clause-here c =
 
 pub put-requires-clause-less : goal.put-requires-clause-less
 put-requires-clause-less c =
-    let k = known c.self.inside.listed.items c.self.inside.shapes.items c.self.inside.current c.self.inside.saved.items c.args.self.now (number_of c.args.v) c.index.result.now c.index-ends.result.now c.self.view_is c.self.invariant c.requires (rw c.number-i.ensures at c.index.ensures) (rw c.number-i.ensures at c.index-ends.ensures) in
-    let held = rw (c.as_slice.ensures.value, c.as_slice-2.ensures.value) at c.cut_low-cut.ensures.held in
-    let values = rw (c.as_slice.ensures.value, c.as_slice-2.ensures.value, to_z-of_z w64 c.args.a c.ranges.a) at c.cut_low-cut.ensures.values in
-    size_less c.self.inside.listed.items c.self.inside.current.bits.items _ c.index.result.now c.index-ends.result.now c.cut_low-cut.result (λ x. int_le c.args.a x) k.shaped k.held held values
+    let k = known c.self.inside.listed.items c.self.inside.shapes.items c.self.inside.current c.self.inside.saved.items c.args.self.now (number_of c.args.v) c.index-shape.result.now c.index-ends.result.now c.self.view_is c.self.invariant c.requires (rw c.number-i.ensures at c.index-shape.ensures) (rw c.number-i.ensures at c.index-ends.ensures) in
+    let held = rw (c.as_slice-listed.ensures.value, c.as_slice-bits.ensures.value) at c.cut_low-cut.ensures.held in
+    let values = rw (c.as_slice-listed.ensures.value, c.as_slice-bits.ensures.value, to_z-of_z w64 c.args.a c.ranges.a) at c.cut_low-cut.ensures.values in
+    size_less c.self.inside.listed.items c.self.inside.current.bits.items _ c.index-shape.result.now c.index-ends.result.now c.cut_low-cut.result (λ x. int_le c.args.a x) k.shaped k.held held values
 
 pub put-requires-clause-counted : goal.put-requires-clause-counted
 put-requires-clause-counted c =
-    let k = known c.self.inside.listed.items c.self.inside.shapes.items c.self.inside.current c.self.inside.saved.items c.args.self.now (number_of c.args.v) c.index.result.now c.index-ends.result.now c.self.view_is c.self.invariant c.requires (rw c.number-i.ensures at c.index.ensures) (rw c.number-i.ensures at c.index-ends.ensures) in
+    let k = known c.self.inside.listed.items c.self.inside.shapes.items c.self.inside.current c.self.inside.saved.items c.args.self.now (number_of c.args.v) c.index-shape.result.now c.index-ends.result.now c.self.view_is c.self.invariant c.requires (rw c.number-i.ensures at c.index-shape.ensures) (rw c.number-i.ensures at c.index-ends.ensures) in
     k.counted
 
 pub invariant_of-self : goal.invariant_of-self
 invariant_of-self c =
-    let held = rw (c.as_slice.ensures.value, c.as_slice-2.ensures.value) at c.cut_low-cut.ensures.held in
-    let values = rw (c.as_slice.ensures.value, c.as_slice-2.ensures.value, to_z-of_z w64 c.args.a c.ranges.a) at c.cut_low-cut.ensures.values in
+    let held = rw (c.as_slice-listed.ensures.value, c.as_slice-bits.ensures.value) at c.cut_low-cut.ensures.held in
+    let values = rw (c.as_slice-listed.ensures.value, c.as_slice-bits.ensures.value, to_z-of_z w64 c.args.a c.ranges.a) at c.cut_low-cut.ensures.values in
     let put : PutAt c.self.inside.current c.put.new.self (number_of c.args.v) c.index-ends.result.now c.cut_low-cut.result = record { ends = rw c.number-i.ensures at c.put.ensures.ends; bits = c.put.ensures.bits; left = c.put.ensures.left } in
-    kept_put c.self.inside.listed.items c.self.inside.shapes.items c.self.inside.current c.put.new.self c.self.inside.saved.items c.args.self.now (number_of c.args.v) c.index.result.now c.index-ends.result.now c.cut_low-cut.result c.self.view_is c.self.invariant c.requires
-    (rw c.number-i.ensures at c.index.ensures) (rw c.number-i.ensures at c.index-ends.ensures) held put
+    kept_put c.self.inside.listed.items c.self.inside.shapes.items c.self.inside.current c.put.new.self c.self.inside.saved.items c.args.self.now (number_of c.args.v) c.index-shape.result.now c.index-ends.result.now c.cut_low-cut.result c.self.view_is c.self.invariant c.requires
+    (rw c.number-i.ensures at c.index-shape.ensures) (rw c.number-i.ensures at c.index-ends.ensures) held put
 
 pub returns : goal.returns
 returns c =
-    let held = rw (c.as_slice.ensures.value, c.as_slice-2.ensures.value) at c.cut_low-cut.ensures.held in
-    let values = rw (c.as_slice.ensures.value, c.as_slice-2.ensures.value, to_z-of_z w64 c.args.a c.ranges.a) at c.cut_low-cut.ensures.values in
+    let held = rw (c.as_slice-listed.ensures.value, c.as_slice-bits.ensures.value) at c.cut_low-cut.ensures.held in
+    let values = rw (c.as_slice-listed.ensures.value, c.as_slice-bits.ensures.value, to_z-of_z w64 c.args.a c.ranges.a) at c.cut_low-cut.ensures.values in
     let put : PutAt c.self.inside.current c.put.new.self (number_of c.args.v) c.index-ends.result.now c.cut_low-cut.result = record { ends = rw c.number-i.ensures at c.put.ensures.ends; bits = c.put.ensures.bits; left = c.put.ensures.left } in
-    changed_put c.self.inside.listed.items c.self.inside.shapes.items c.self.inside.current c.put.new.self c.self.inside.saved.items c.args.self.now (number_of c.args.v) c.index.result.now c.index-ends.result.now c.cut_low-cut.result (λ x. int_le c.args.a x) c.put.result c.self.view_is c.self.invariant c.requires
-    (rw c.number-i.ensures at c.index.ensures) (rw c.number-i.ensures at c.index-ends.ensures) held values put c.put.ensures.moved
+    changed_put c.self.inside.listed.items c.self.inside.shapes.items c.self.inside.current c.put.new.self c.self.inside.saved.items c.args.self.now (number_of c.args.v) c.index-shape.result.now c.index-ends.result.now c.cut_low-cut.result (λ x. int_le c.args.a x) c.put.result c.self.view_is c.self.invariant c.requires
+    (rw c.number-i.ensures at c.index-shape.ensures) (rw c.number-i.ensures at c.index-ends.ensures) held values put c.put.ensures.moved
+
+pub returns-then-a-ends : goal.returns-then-a-ends
+returns-then-a-ends c =
+    let k = known c.self.inside.listed.items c.self.inside.shapes.items c.self.inside.current c.self.inside.saved.items c.args.self.now (number_of c.args.v) c.index-shape.result.now c.index-ends.result.now c.self.view_is c.self.invariant c.requires (rw c.number-i.ensures at c.index-shape.ensures) (rw c.number-i.ensures at c.index-ends.ensures) in
+    let values = kept_low c.self.inside.listed.items c.self.inside.current.bits.items _ c.index-shape.result.now c.index-ends.result.now c.args.a k.shaped k.held (omega (arith, ints)) in
+    rest_changed c.self.inside.listed.items c.self.inside.shapes.items c.self.inside.current c.self.inside.saved.items c.args.self.now (number_of c.args.v) c.index-shape.result.now c.index-ends.result.now (λ x. int_le c.args.a x) c.moved.result c.self.view_is c.self.invariant c.requires
+    (rw c.number-i.ensures at c.index-shape.ensures) (rw c.number-i.ensures at c.index-ends.ensures) values c.moved.ensures
