@@ -2,6 +2,7 @@ pub mod Alike
 pub mod Chosen
 pub mod Counting
 pub mod Leaving
+pub mod Limiting
 pub mod Parting
 pub mod Pathing
 pub mod Placing
