@@ -1,6 +1,7 @@
 pub mod Alike
 pub mod Chosen
 pub mod Counting
+pub mod Filling
 pub mod Leaving
 pub mod Limiting
 pub mod Parting
