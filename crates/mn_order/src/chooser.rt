@@ -1,8 +1,9 @@
 //! A choice with a rule that answers it.
-ghost use Rattle.std.specs.Prelude.{◌≡◌, ◌↔◌, IsNone};
+ghost use Rattle.std.specs.Prelude.{◌≡◌, ◌↔◌, IsFalse, IsNone, IsTrue};
 ghost use Rattle.std.specs.List.{AllByRecursion};
 ghost use Rattle.mn_order.specs.Choose.{AreSizes, choose};
 ghost use Rattle.mn_order.specs.Keeps.{AnswersChoice, TakesSizes};
+ghost use Rattle.mn_order.specs.declared.choice.Choice.TheVariants.{Fixed};
 
 use crate::choice::Choice;
 use crate::rule::Rule;
@@ -35,6 +36,17 @@ impl<R: Rule> Chooser<R> {
         ensures { result ≡ choice }
     {
         Chooser { choice, rule }
+    }
+
+    /// Whether the order of variables decides alone.
+    pub fn is_fixed(&self) -> bool
+        ensures yes { IsTrue result → self.now ≡ Fixed }
+        ensures no { IsFalse result → self.now ≡ Fixed → ⊥ }
+    {
+        match self.choice {
+            Choice::Fixed => true,
+            Choice::Smallest | Choice::Largest | Choice::Ratio => false,
+        }
     }
 
     /// The place that the choice names.

@@ -1,7 +1,9 @@
 pub mod Alike
 pub mod Chosen
 pub mod Counting
+pub mod Filling
 pub mod Leaving
+pub mod Limiting
 pub mod Parting
 pub mod Pathing
 pub mod Placing

@@ -1,12 +1,15 @@
-//! The search of an instance: depth first over closed boxes, in the order of VARORDER and VALORDER.
+//! The search of an instance: depth first over closed boxes, in the order of VARORDER and VALORDER, or by the sizes of the
+//! sets.
 //!
 //! A `Search` settles a box, branches where its closure leaves a choice, and visits the part with the value that is tried
 //! before the part without it. The definition `Visits` of `specs/` says which visits a box has, and `Search::next` makes
-//! them one after another: each solution of the instance is told once, in order, and nothing else is. What is left between
-//! two calls is `solutions_left` and `visits_left`. The functions beside it are laws of these definitions and do nothing.
+//! them one after another: each solution of the instance is told once and nothing else is, and in order where the order of
+//! variables decides. With a limit it stops where so many visits are made and another is left. What is left between two
+//! calls is `solutions_left` and `visits_left`. The functions beside it are laws of these definitions and do nothing.
 //!
-//! Only the stack of decisions and what the engine saves at a branch take memory. The crate stands on `mn_engine` and
-//! `mn_prop`, and for its definitions on `mn_boxes`, `mn_closure`, `mn_domains`, `mn_meaning`, `mn_model` and `mn_order`.
+//! While it runs, only the stack of decisions and what the engine saves at a branch take memory. The crate stands on
+//! `mn_engine`, `mn_order` and `mn_prop`, and for its definitions on `mn_boxes`, `mn_closure`, `mn_domains`, `mn_meaning`
+//! and `mn_model`.
 #![tactic(auto)]
 
 mod branching;
