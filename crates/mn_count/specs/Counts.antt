@@ -1,0 +1,27 @@
+-- The constraint that a `Count` narrows.
+use Rattle.std.specs.Prelude.{Bool, false}
+use Rattle.mn_model.specs.declared.constraint.Con.{Con}
+use Rattle.mn_model.specs.declared.constraint.Con.TheVariants as con
+use Rattle.mn_prop.specs.Forwards.{checked}
+use Rattle.mn_prop.specs.Posts.{Posted, beside}
+use Rattle.mn_count.specs.declared.alldiff.Alldiff.{Alldiff}
+use Rattle.mn_count.specs.declared.count.Count.{Count}
+use Rattle.mn_count.specs.declared.count.Count.TheVariants.{Differ, Few}
+
+-- a constraint of this crate
+abbrev pub IsCounting : Con → Type 0
+IsCounting (con.Alldiff v) = Unit {0}
+IsCounting (con.Nvalueleq v x) = Unit {0}
+IsCounting c = ⊥
+
+abbrev pub alldiff_of : Alldiff → Posted
+alldiff_of d = beside d.inst.now.tuples (con.Alldiff d.v.now)
+
+abbrev pub posted_of : Count → Posted
+posted_of (Differ d) = alldiff_of d
+posted_of (Few f) = checked f
+
+-- whether a pass leaves nothing for another one to do
+abbrev pub rests_of : Count → Bool
+rests_of (Differ d) = false
+rests_of (Few f) = false

@@ -1,0 +1,16 @@
+//! Propagators of constraints that count equal values: `alldiff` and `nvalueleq`.
+//!
+//! A `Count` narrows the places of one such constraint, with the promises of a `Runner`. `alldiff` has level Fixed: a value goes
+//! from a place where another place has it alone. `nvalueleq` is checked forward.
+//!
+//! The crate stands on `mn_prop`, which says what a propagator owes, and on `mn_closure`, `mn_boxes`, `mn_domains`,
+//! `mn_meaning` and `mn_model`.
+#![tactic(auto)]
+
+mod alldiff;
+mod changes;
+mod count;
+
+pub use alldiff::Alldiff;
+pub use count::Count;
+pub use std::alloc::AllocError as NoMemory;
