@@ -1,0 +1,3 @@
+pub mod Choosing
+pub mod Others
+pub mod Told
