@@ -1,6 +1,7 @@
 //! What narrows one constraint of arithmetic.
 ghost use Rattle.std.specs.Prelude.{◌≡◌, IfOk, false, true};
 ghost use Rattle.mn_prop.specs.Contexts.{box_of, vars_of};
+ghost use Rattle.mn_prop.specs.Footings.{no_footing};
 ghost use Rattle.mn_prop.specs.Losses.{Unsupported};
 ghost use Rattle.mn_prop.specs.Passes.{IsStep};
 ghost use Rattle.mn_prop.specs.Posts.{ClosedUnderLeaf, IsReadyToRun, beside};
@@ -62,6 +63,7 @@ impl Arith<'_> {
 
 impl Scoped for Arith<'_> {
     ghost posted = { posted_of };
+    ghost footing = { λ _. no_footing };
 
     fn places(&self) -> usize {
         match self {

@@ -2,6 +2,7 @@
 ghost use Rattle.std.specs.Prelude.{◌≡◌, ◌↔◌, ◌⊎◌, IsTrue};
 ghost use Rattle.mn_meaning.specs.Families.{IsWithin};
 ghost use Rattle.mn_prop.specs.Contexts.{IsNamed, box_of, vars_of};
+ghost use Rattle.mn_prop.specs.Footings.{no_footing};
 ghost use Rattle.mn_prop.specs.Losses.{Unsupported};
 ghost use Rattle.mn_prop.specs.Passes.{IsStep};
 ghost use Rattle.mn_prop.specs.Posts.{ClosedUnderLeaf, IsReadyToRun};
@@ -126,6 +127,7 @@ impl Extreme<'_> {
 
 impl Scoped for Extreme<'_> {
     ghost posted = { extreme_of };
+    ghost footing = { λ _. no_footing };
 
     fn places(&self) -> usize {
         self.terms.as_slice().len() + 1

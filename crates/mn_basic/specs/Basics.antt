@@ -1,5 +1,7 @@
 -- The constraint that a `Basic` narrows.
 use Rattle.std.specs.Prelude.{Bool, true, false}
+use Rattle.mn_model.specs.declared.constraint.Con.{Con}
+use Rattle.mn_model.specs.declared.constraint.Con.TheVariants as con
 use Rattle.mn_prop.specs.Forwards.{checked}
 use Rattle.mn_prop.specs.Posts.{Posted}
 use Rattle.mn_basic.specs.Binaries.{differ_of, ineq_of}
@@ -7,6 +9,17 @@ use Rattle.mn_basic.specs.Ties.{tied_of}
 use Rattle.mn_basic.specs.Unaries.{in_one_change, unary_of}
 use Rattle.mn_basic.specs.declared.basic.Basic.{Basic}
 use Rattle.mn_basic.specs.declared.basic.Basic.TheVariants.{Differ, Ineq, Tied, Unary, Forward}
+
+-- the forms of this crate: those of two terms and of one, and those that are checked forward. The others have a crate of their
+-- own
+abbrev pub is_basic : Con → Bool
+is_basic (con.Max v x) = false
+is_basic (con.Min v x) = false
+is_basic (con.Alldiff v) = false
+is_basic (con.Lexleq v w) = false
+is_basic (con.Lexless v w) = false
+is_basic (con.Watchvecneq v w) = false
+is_basic c = true
 
 abbrev pub posted_of : Basic → Posted
 posted_of (Differ d) = differ_of d

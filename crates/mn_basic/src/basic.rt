@@ -5,7 +5,7 @@ ghost use Rattle.mn_prop.specs.Footings.{no_footing};
 ghost use Rattle.mn_prop.specs.Losses.{Unsupported};
 ghost use Rattle.mn_prop.specs.Passes.{IsStep};
 ghost use Rattle.mn_prop.specs.Posts.{ClosedUnderLeaf, IsReadyToRun, beside};
-ghost use Rattle.mn_basic.specs.Basics.{posted_of, rests_of};
+ghost use Rattle.mn_basic.specs.Basics.{is_basic, posted_of, rests_of};
 ghost use Rattle.mn_basic.specs.Binaries.{differ_between, order_of};
 ghost use Rattle.mn_basic.specs.Ties.{tie_of};
 ghost use Rattle.mn_basic.specs.Unaries.{literal_of};
@@ -15,9 +15,8 @@ use crate::ineq::{Ineq, Order};
 use crate::numbers::Numbers;
 use crate::tie::{Tie, Tied};
 use crate::unary::Unary;
-use mn_domains::Doms;
 use mn_model::{Con, Instance, Term};
-use mn_prop::{Ctx, Fail, ForwardCheck, Make, Runner, Scoped};
+use mn_prop::{Ctx, Fail, ForwardCheck, Runner, Scoped};
 use std::alloc::{AllocError, Global};
 
 /// What narrows one constraint, of any form.
@@ -38,6 +37,7 @@ pub enum Basic<'a> {
 impl<'a> Basic<'a> {
     /// What narrows the constraint, beside the tuple lists of the instance.
     pub fn build(alloc: Global, inst: &'a Instance, con: &'a Con) -> Result<Basic<'a>, AllocError>
+        requires { is_basic con.now ≡ true }
         ensures { IfOk result (λ b. posted_of b ≡ beside inst.now.tuples con.now) }
     {
         match con {
@@ -140,16 +140,5 @@ impl Runner for Basic<'_> {
 
     fn pass(&mut self, c: &mut Ctx) -> Result<(), Fail> {
         self.filter(c)
-    }
-}
-
-impl<'a> Make<'a> for Basic<'a> {
-    fn make(
-        alloc: Global,
-        inst: &'a Instance,
-        con: &'a Con,
-        _doms: &mut Doms,
-    ) -> Result<Basic<'a>, AllocError> {
-        Basic::build(alloc, inst, con)
     }
 }

@@ -1,6 +1,7 @@
 //! Places that all differ: `alldiff`.
 ghost use Rattle.std.specs.Prelude.{◌<◌, length};
 ghost use Rattle.mn_prop.specs.Contexts.{vars_of};
+ghost use Rattle.mn_prop.specs.Footings.{no_footing};
 ghost use Rattle.mn_prop.specs.Losses.{Unsupported};
 ghost use Rattle.mn_prop.specs.Passes.{IsStep};
 ghost use Rattle.mn_prop.specs.Posts.{ClosedUnderLeaf, IsReadyToRun};
@@ -57,6 +58,7 @@ impl Scoped for Alldiff<'_> {
     ghost use Rattle.mn_count.specs.Counts.{alldiff_of};
 
     ghost posted = { alldiff_of };
+    ghost footing = { λ _. no_footing };
 
     fn places(&self) -> usize {
         self.v.as_slice().len()

@@ -1,6 +1,7 @@
 //! What narrows a constraint that counts equal values.
 ghost use Rattle.std.specs.Prelude.{◌≡◌, IfOk, OnOk, true};
 ghost use Rattle.mn_prop.specs.Contexts.{box_of, vars_of};
+ghost use Rattle.mn_prop.specs.Footings.{no_footing};
 ghost use Rattle.mn_prop.specs.Losses.{Unsupported};
 ghost use Rattle.mn_prop.specs.Passes.{IsStep};
 ghost use Rattle.mn_prop.specs.Posts.{ClosedUnderLeaf, IsReadyToRun, beside};
@@ -48,6 +49,7 @@ impl<'a> Count<'a> {
 
 impl Scoped for Count<'_> {
     ghost posted = { posted_of };
+    ghost footing = { λ _. no_footing };
 
     fn places(&self) -> usize {
         match self {

@@ -1,0 +1,103 @@
+//! The propagator of one constraint.
+ghost use Rattle.std.specs.Prelude.{◌≡◌, IfOk};
+ghost use Rattle.mn_prop.specs.Footings.{no_footing};
+ghost use Rattle.mn_prop.specs.Posts.{beside};
+ghost use Rattle.mn_leaf.specs.Leaves.{posted_of, rests_of};
+
+use mn_arith::Arith;
+use mn_basic::Basic;
+use mn_count::Count;
+use mn_domains::Doms;
+use mn_lex::LexCon;
+use mn_model::{Con, Instance, Term};
+use mn_prop::{Ctx, Fail, Make, Runner, Scoped};
+use std::alloc::{AllocError, Global};
+
+/// What narrows one constraint, of any form.
+#[derive(Drop)]
+pub enum Leaf<'a> {
+    /// Two terms or one, and what is checked forward.
+    Basic(Basic<'a>),
+    /// Arithmetic.
+    Arith(Arith<'a>),
+    /// Equal values that are counted.
+    Count(Count<'a>),
+    /// Two vectors.
+    Lex(LexCon<'a>),
+}
+
+impl<'a> Leaf<'a> {
+    /// What narrows the constraint, beside the tuple lists of the instance.
+    pub fn build(alloc: Global, inst: &'a Instance, con: &'a Con) -> Result<Leaf<'a>, AllocError>
+        ensures { IfOk result (λ l. posted_of l ≡ beside inst.now.tuples con.now) }
+    {
+        match con {
+            Con::Div(_, _, _) | Con::Modulo(_, _, _) | Con::Max(_, _) | Con::Min(_, _) => {
+                Ok(Leaf::Arith(Arith::build(alloc, inst, con)?))
+            }
+            Con::Alldiff(_) | Con::Nvalueleq(_, _) => {
+                Ok(Leaf::Count(Count::build(alloc, inst, con)?))
+            }
+            Con::Lexleq(_, _) | Con::Lexless(_, _) | Con::Watchvecneq(_, _) => {
+                Ok(Leaf::Lex(LexCon::build(inst, con)))
+            }
+            _ => Ok(Leaf::Basic(Basic::build(alloc, inst, con)?)),
+        }
+    }
+}
+
+impl Scoped for Leaf<'_> {
+    ghost posted = { posted_of };
+    ghost footing = { λ _. no_footing };
+
+    fn places(&self) -> usize {
+        match self {
+            Leaf::Basic(b) => b.places(),
+            Leaf::Arith(a) => a.places(),
+            Leaf::Count(c) => c.places(),
+            Leaf::Lex(l) => l.places(),
+        }
+    }
+
+    fn term(&self, i: usize) -> Term {
+        match self {
+            Leaf::Basic(b) => b.term(i),
+            Leaf::Arith(a) => a.term(i),
+            Leaf::Count(c) => c.term(i),
+            Leaf::Lex(l) => l.term(i),
+        }
+    }
+}
+
+impl Runner for Leaf<'_> {
+    ghost rests = { rests_of };
+
+    fn settles(&self) -> bool {
+        match self {
+            Leaf::Basic(b) => b.settles(),
+            Leaf::Arith(a) => a.settles(),
+            Leaf::Count(c) => c.settles(),
+            Leaf::Lex(l) => l.settles(),
+        }
+    }
+
+    fn pass(&mut self, c: &mut Ctx) -> Result<(), Fail> {
+        match self {
+            Leaf::Basic(b) => b.pass(c),
+            Leaf::Arith(a) => a.pass(c),
+            Leaf::Count(k) => k.pass(c),
+            Leaf::Lex(l) => l.pass(c),
+        }
+    }
+}
+
+impl<'a> Make<'a> for Leaf<'a> {
+    fn make(
+        alloc: Global,
+        inst: &'a Instance,
+        con: &'a Con,
+        _doms: &mut Doms,
+    ) -> Result<Leaf<'a>, AllocError> {
+        Leaf::build(alloc, inst, con)
+    }
+}
