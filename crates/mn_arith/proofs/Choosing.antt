@@ -1,5 +1,5 @@
 -- Choices of values, place by place.
-use Rattle.std.proofs.Common.{◌≡◌, ℕ, zero, suc, ◌+◌, ◌<◌, ℤ, inl, inr, List, [], ◌∷◌, ◌++◌, length, take, slice_get, Some, refl, sym, subst, ap, ◌∙◌, arith}
+use Rattle.std.proofs.Common.{◌≡◌, ℕ, zero, suc, ◌<◌, ℤ, inl, inr, List, [], ◌∷◌, ◌++◌, length, take, slice_get, Some, refl, subst, ap, arith}
 use Rattle.std.specs.List.{AllByRecursion}
 use Rattle.mn_model.specs.Domain.{Has}
 use Rattle.mn_model.specs.declared.constraint.Term.{Term}

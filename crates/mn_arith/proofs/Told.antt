@@ -1,5 +1,5 @@
 -- Which values of a greatest or a least, and of its places, are supported.
-use Rattle.std.proofs.Common.{◌≡◌, ◌≢◌, ◌↔◌, ℕ, zero, suc, ◌+◌, ◌<◌, ℤ, ◌⊎◌, inl, inr, Bool, true, false, IsTrue, List, [], ◌∷◌, ◌++◌, length, take, slice_get, Some, refl, sym, subst, ap, ◌∙◌, arith}
+use Rattle.std.proofs.Common.{◌≡◌, ◌≢◌, ◌↔◌, ℕ, suc, ◌<◌, ℤ, ◌⊎◌, inl, inr, Bool, true, false, IsTrue, List, [], ◌∷◌, ◌++◌, length, take, slice_get, Some, refl, sym, subst, ap, ◌∙◌, arith}
 use Rattle.std.proofs.lemmas.Int.{ints}
 use Rattle.std.proofs.lemmas.Option.{slice_get_within}
 use Rattle.mn_model.specs.Decided.{Decided, decide_nat}
@@ -14,7 +14,7 @@ use Rattle.mn_meaning.specs.Meaning.{Meets, at}
 use Rattle.mn_closure.specs.Levels.{Arc, level}
 use Rattle.mn_closure.specs.Supports.{Choice, ChoiceWith, StandsAt, Supported, SupportedAt}
 use Rattle.mn_prop.specs.Posts.{HasAt}
-use Rattle.mn_arith.specs.Extremes.{CanBeExtreme, OtherHas, OthersReach, Reaches, SomeExtreme, extreme_con}
+use Rattle.mn_arith.specs.Extremes.{OtherHas, OthersReach, Reaches, SomeExtreme, extreme_con}
 use Rattle.mn_arith.proofs.Choosing.{Chosen, StandsFirst, ValueOf, all_first, behind_is, behind_long, behind_stands, choice_long, choose, first_all, first_has, front_stands, has_first, stands_front, value_there}
 
 module _ (greatest : Bool) (v : List Term) (x : Term) where
@@ -84,7 +84,7 @@ module _ (greatest : Bool) (v : List Term) (x : Term) (lists : List Tuples) (box
       found_is = (all.has k (omega (arith, longer, some))).found refl
 
   module _ (i k : ℕ) (a m : ℤ) (at_i : (t : Term) → slice_get (v ++ x ∷ []) i ≡ Some t → PlaceHas box t a) (given : i < length v → IsWithin greatest m a) (at_last : PlaceHas box x m)
-    (at_k : (t : Term) → slice_get v k ≡ Some t → PlaceHas box t m) (some : k < length v) (others : OthersReach v i greatest m box) (own_found : i ≡ k → a ≡ m) (own_last : i ≡ length v → a ≡ m) where
+      (at_k : (t : Term) → slice_get v k ≡ Some t → PlaceHas box t m) (some : k < length v) (others : OthersReach v i greatest m box) (own_found : i ≡ k → a ≡ m) (own_last : i ≡ length v → a ≡ m) where
     -- there are such values
     each_value : (j : ℕ) (t : Term) → slice_get (v ++ x ∷ []) j ≡ Some t → ValueOf box t (Suits greatest (length v) i k a m j)
     each_value j t stands = own (decide_nat j i)

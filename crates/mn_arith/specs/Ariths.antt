@@ -1,5 +1,5 @@
 -- The constraint that an `Arith` narrows.
-use Rattle.std.specs.Prelude.{◌⊎◌, Bool, true, false, IsTrue}
+use Rattle.std.specs.Prelude.{Bool, true, false}
 use Rattle.mn_model.specs.declared.constraint.Con.{Con}
 use Rattle.mn_model.specs.declared.constraint.Con.TheVariants as con
 use Rattle.mn_prop.specs.Forwards.{checked}

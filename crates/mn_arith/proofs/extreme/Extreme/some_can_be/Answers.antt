@@ -1,7 +1,6 @@
-use Rattle.std.proofs.Common.{FitsSigned, ℤ, pos, to_z, rules, w64, sym, ◌∙◌, true≢false, arith}
-use Rattle.std.proofs.lemmas.Int.{ints, to_z-of_z}
+use Rattle.std.proofs.Common.{FitsSigned, rules, w64, sym, ◌∙◌, true≢false}
+use Rattle.std.proofs.lemmas.Int.{to_z-of_z}
 use Rattle.mn_prop.specs.Contexts.{box_of, vars_of}
-use Rattle.mn_prop.proofs.Revisions.{gap_falls}
 use Rattle.mn_arith.proofs.Others.{behind_named, next_scanned, none_scanned}
 use Rattle.mn_arith.proofs.extreme.Extreme.some_can_be.Goals as goal
 
