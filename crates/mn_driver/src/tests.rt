@@ -300,8 +300,8 @@ const ROWS: [Row; 65] = [
         fail: 0,
         status: 0,
         solutions: 6,
-        nodes: 19,
-        written: b"Sol: 0 0 0 1\nSolution Number: 1\nSol: 0 0 1 0\nSolution Number: 2\nSol: 0 0 1 1\nSolution Number: 3\nSol: 0 1 1 0\nSolution Number: 4\nSol: 0 1 1 1\nSolution Number: 5\nSol: 1 0 1 1\nSolution Number: 6\nSolutions: 6\nNodes: 19\nOutcome: complete\n",
+        nodes: 11,
+        written: b"Sol: 0 0 0 1\nSolution Number: 1\nSol: 0 0 1 0\nSolution Number: 2\nSol: 0 0 1 1\nSolution Number: 3\nSol: 0 1 1 0\nSolution Number: 4\nSol: 0 1 1 1\nSolution Number: 5\nSol: 1 0 1 1\nSolution Number: 6\nSolutions: 6\nNodes: 11\nOutcome: complete\n",
     },
     Row {
         words: ALL,
