@@ -63,6 +63,7 @@ impl Arith<'_> {
 
 impl Scoped for Arith<'_> {
     ghost posted = { posted_of };
+
     ghost footing = { λ _. no_footing };
 
     fn places(&self) -> usize {

@@ -127,6 +127,7 @@ impl Extreme<'_> {
 
 impl Scoped for Extreme<'_> {
     ghost posted = { extreme_of };
+
     ghost footing = { λ _. no_footing };
 
     fn places(&self) -> usize {

@@ -58,6 +58,7 @@ impl Scoped for Alldiff<'_> {
     ghost use Rattle.mn_count.specs.Counts.{alldiff_of};
 
     ghost posted = { alldiff_of };
+
     ghost footing = { λ _. no_footing };
 
     fn places(&self) -> usize {

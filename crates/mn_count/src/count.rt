@@ -49,6 +49,7 @@ impl<'a> Count<'a> {
 
 impl Scoped for Count<'_> {
     ghost posted = { posted_of };
+
     ghost footing = { λ _. no_footing };
 
     fn places(&self) -> usize {

@@ -48,6 +48,7 @@ impl<'a> Leaf<'a> {
 
 impl Scoped for Leaf<'_> {
     ghost posted = { posted_of };
+
     ghost footing = { λ _. no_footing };
 
     fn places(&self) -> usize {

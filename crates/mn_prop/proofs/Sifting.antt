@@ -87,8 +87,10 @@ module _ (p : ℤ → Bool) where
     where
       low : list_any (λ x. int_le x a && p x) xs ≡ true
       low = any_of (λ x. int_le x a && p x) xs a has (both (int_le a a) (p a) (itself a) e)
+
       high : list_any (λ x. int_le a x && p x) xs ≡ true
       high = any_of (λ x. int_le a x && p x) xs a has (both (int_le a a) (p a) (itself a) e)
+
       by : (t : Bool) → cond t (list_any (λ x. int_le x a && p x) xs && list_any (λ x. int_le a x && p x) xs) (p a) ≡ true
       by true = both (list_any (λ x. int_le x a && p x) xs) (list_any (λ x. int_le a x && p x) xs) low high
       by false = e
@@ -123,21 +125,27 @@ end_passes p vars old new v q box is stay so a might = by (so a (kept_passes q (
   where
     up : Ascends (set_of new (number_of v))
     up = ascends_at vars new (number_of v) box
+
     -- a passing value of the old set is in the new one
     stayed : (x : ℤ) → Has (set_of old (number_of v)) x → p x ≡ true → Has (set_of new (number_of v)) x
     stayed x has e = subst (λ (b : List (List ℤ)). Has (set_of b (number_of v)) x) (sym is) (has_kept q (number_of v) old x has (stay x has e))
+
     by : (p a ≡ true) ⊎ IsBetween p (variable_at vars (number_of v)) (set_of old (number_of v)) a → p a ≡ true
     by (inl e) = e
     by (inr between) = at_end (might.ends between.bounded)
       where
         low_is : p between.low.value ≡ true
         low_is = other_of (int_le between.low.value a) (p between.low.value) between.low.is
+
         low_le : between.low.value ≤ℤ a
         low_le = le_so between.low.value a (one_of (int_le between.low.value a) (p between.low.value) between.low.is)
+
         high_is : p between.high.value ≡ true
         high_is = other_of (int_le a between.high.value) (p between.high.value) between.high.is
+
         high_le : a ≤ℤ between.high.value
         high_le = le_so a between.high.value (one_of (int_le a between.high.value) (p between.high.value) between.high.is)
+
         at_end : IsPlaceEnd new (Var v) a → p a ≡ true
         at_end (inl first) =
             let least = (low_var new v a up first).least.least between.low.value (stayed between.low.value between.low.there low_is) in
@@ -155,12 +163,16 @@ sifted_var p v d e before now change answer box changed is = by answer (changed_
   where
     q : ℤ → Bool
     q = stays (variable_at d.vars (number_of v)) p (set_of d.now.sets (number_of v))
+
     stay : (a : ℤ) → Has (set_of d.now.sets (number_of v)) a → p a ≡ true → q a ≡ true
     stay a has e = stays_if p (variable_at d.vars (number_of v)) (set_of d.now.sets (number_of v)) a has e
+
     old : Context
     old = record { doms = d; moved = before }
+
     new : Context
     new = record { doms = e; moved = now }
+
     by : (r : Result (Unit {0}) Fail) → ChangedAt q (Var v) old new r → IsSifted p (Var v) old new r
     by (Ok done) change = record {
       test = q;
@@ -225,9 +237,10 @@ bits_agree p zero one t box bits at_0 at_1 a has = by (bits a has)
 -- ---- whether something passes
 
 pub met_var : (p : ℤ → Bool) (v : VarId) (sets : List (List ℤ)) (r : Bool) → r ≡ list_any p (set_of sets (number_of v)) → IsTrue r ↔ SomePasses p (Var v) sets
-met_var p v sets r is =
-    (λ true. (let found = found_any p (set_of sets (number_of v)) (sym is ∙ true) in record { value = found.value; there = found.there; passes = found.is }),
-     λ some. is ∙ any_of p (set_of sets (number_of v)) some.value some.there some.passes)
+met_var p v sets r is = (
+  λ true. (let found = found_any p (set_of sets (number_of v)) (sym is ∙ true) in record { value = found.value; there = found.there; passes = found.is }),
+  λ some. is ∙ any_of p (set_of sets (number_of v)) some.value some.there some.passes,
+)
 
 pub met_bits : (p : ℤ → Bool) (t : Term) (sets : List (List ℤ)) (zero one : Bool) → HasBits t sets → zero ≡ false → IsTrue zero ↔ (PlaceHas sets t (pos 0) × IsTrue (p (pos 0))) → IsTrue one ↔ (PlaceHas sets t (pos 1) × IsTrue (p (pos 1))) → IsTrue one ↔ SomePasses p t sets
 met_bits p t sets zero one bits not_zero at_0 at_1 =
