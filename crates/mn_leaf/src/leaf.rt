@@ -4,7 +4,6 @@ ghost use Rattle.mn_prop.specs.Footings.{no_footing};
 ghost use Rattle.mn_prop.specs.Posts.{beside};
 ghost use Rattle.mn_leaf.specs.Leaves.{posted_of, rests_of};
 
-use mn_arith::Arith;
 use mn_basic::Basic;
 use mn_count::Count;
 use mn_domains::Doms;
@@ -18,8 +17,6 @@ use std::alloc::{AllocError, Global};
 pub enum Leaf<'a> {
     /// Two terms or one, and what is checked forward.
     Basic(Basic<'a>),
-    /// Arithmetic.
-    Arith(Arith<'a>),
     /// Equal values that are counted.
     Count(Count<'a>),
     /// Two vectors.
@@ -32,9 +29,6 @@ impl<'a> Leaf<'a> {
         ensures { IfOk result (λ l. posted_of l ≡ beside inst.now.tuples con.now) }
     {
         match con {
-            Con::Div(_, _, _) | Con::Modulo(_, _, _) | Con::Max(_, _) | Con::Min(_, _) => {
-                Ok(Leaf::Arith(Arith::build(alloc, inst, con)?))
-            }
             Con::Alldiff(_) | Con::Nvalueleq(_, _) => {
                 Ok(Leaf::Count(Count::build(alloc, inst, con)?))
             }
@@ -54,7 +48,6 @@ impl Scoped for Leaf<'_> {
     fn places(&self) -> usize {
         match self {
             Leaf::Basic(b) => b.places(),
-            Leaf::Arith(a) => a.places(),
             Leaf::Count(c) => c.places(),
             Leaf::Lex(l) => l.places(),
         }
@@ -63,7 +56,6 @@ impl Scoped for Leaf<'_> {
     fn term(&self, i: usize) -> Term {
         match self {
             Leaf::Basic(b) => b.term(i),
-            Leaf::Arith(a) => a.term(i),
             Leaf::Count(c) => c.term(i),
             Leaf::Lex(l) => l.term(i),
         }
@@ -76,7 +68,6 @@ impl Runner for Leaf<'_> {
     fn settles(&self) -> bool {
         match self {
             Leaf::Basic(b) => b.settles(),
-            Leaf::Arith(a) => a.settles(),
             Leaf::Count(c) => c.settles(),
             Leaf::Lex(l) => l.settles(),
         }
@@ -85,7 +76,6 @@ impl Runner for Leaf<'_> {
     fn pass(&mut self, c: &mut Ctx) -> Result<(), Fail> {
         match self {
             Leaf::Basic(b) => b.pass(c),
-            Leaf::Arith(a) => a.pass(c),
             Leaf::Count(k) => k.pass(c),
             Leaf::Lex(l) => l.pass(c),
         }
