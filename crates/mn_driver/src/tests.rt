@@ -722,7 +722,7 @@ fn var(n: u32) -> Term
 fn an_order_is_reversed(rt: HostRuntime) -> Result<(), Fail> {
     let reversed = reverse(rt.alloc(), &Con::Ineq(var(0), var(1), -1))?;
     assert!(rt;
-        matches!(reversed, Con::Ineq(Term::Var(x), Term::Var(y), 0) if x.number() == 1 && y.number() == 0)
+        matches!(&reversed, Con::Ineq(Term::Var(x), Term::Var(y), 0) if x.number() == 1 && y.number() == 0)
     );
     Ok(())
 }
