@@ -1,10 +1,5 @@
 //! Whole runs with all that they write, as they were worked out by hand.
-ghost use Rattle.std.specs.Prelude.{◌≡◌};
-ghost use Rattle.mn_model.specs.Variable.{variable};
-ghost use Rattle.mn_model.specs.declared.constraint.Term.TheVariants.{Var};
-
 use crate::fixture::{Finished, ran};
-use mn_model::{Con, Term, VarId, reverse};
 use std::alloc::{AllocError, Global};
 use std::fmt::Write;
 use std::test::Fail;
@@ -709,30 +704,5 @@ fn the_largest_sum_has_room(rt: HostRuntime) -> Result<(), Fail> {
         let ran = ran(rt.alloc(), ALL, text.as_bytes(), 0)?;
         assert_eq!(rt; told(&ran), (0, solutions, 1, written), "{name}");
     }
-    Ok(())
-}
-
-fn var(n: u32) -> Term
-    ensures { result ≡ Var (variable n) }
-{
-    Term::Var(VarId::new(n))
-}
-
-#[test]
-fn an_order_is_reversed(rt: HostRuntime) -> Result<(), Fail> {
-    let reversed = reverse(rt.alloc(), &Con::Ineq(var(0), var(1), -1))?;
-    assert!(rt;
-        matches!(&reversed, Con::Ineq(Term::Var(x), Term::Var(y), 0) if x.number() == 1 && y.number() == 0)
-    );
-    Ok(())
-}
-
-#[test]
-fn a_product_is_negated(rt: HostRuntime) -> Result<(), Fail> {
-    let reversed = reverse(rt.alloc(), &Con::Product(var(0), var(1), var(2)))?;
-    let Con::Negated(part) = &reversed else {
-        return Err(Fail::new("negated"));
-    };
-    assert!(rt; matches!(part.get(), Con::Product(_, _, Term::Var(z)) if z.number() == 2));
     Ok(())
 }
