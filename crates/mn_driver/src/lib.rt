@@ -21,10 +21,3 @@ pub use mn_options::Usage;
 pub use mn_report::MEMORY_LINE;
 pub use program::run;
 pub use status::{Counts, Ended, Status};
-
-#[cfg(test)]
-mod fixture;
-#[cfg(test)]
-mod plain;
-#[cfg(test)]
-mod tests;
