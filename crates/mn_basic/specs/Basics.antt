@@ -13,6 +13,13 @@ use Rattle.mn_basic.specs.declared.basic.Basic.TheVariants.{Differ, Ineq, Tied, 
 -- the forms of this crate: those of two terms and of one, and those that are checked forward. The others have a crate of their
 -- own
 abbrev pub is_basic : Con → Bool
+is_basic (con.Sumleq v x) = false
+is_basic (con.Sumgeq v x) = false
+is_basic (con.Weightedsumleq ks v x) = false
+is_basic (con.Weightedsumgeq ks v x) = false
+is_basic (con.Watchsumleq v k) = false
+is_basic (con.Watchsumgeq v k) = false
+is_basic (con.Litsumgeq v ks k) = false
 is_basic (con.Alldiff v) = false
 is_basic (con.Lexleq v w) = false
 is_basic (con.Lexless v w) = false

@@ -1,7 +1,8 @@
 //! The propagator of one constraint.
 ghost use Rattle.std.specs.Prelude.{◌≡◌, IfOk};
+ghost use Rattle.mn_boxes.specs.Boxes.{declared_variables};
 ghost use Rattle.mn_prop.specs.Footings.{no_footing};
-ghost use Rattle.mn_prop.specs.Posts.{beside};
+ghost use Rattle.mn_prop.specs.Posts.{IsReadyToRun, beside};
 ghost use Rattle.mn_leaf.specs.Leaves.{posted_of, rests_of};
 
 use mn_basic::Basic;
@@ -10,6 +11,7 @@ use mn_domains::Doms;
 use mn_lex::LexCon;
 use mn_model::{Con, Instance, Term};
 use mn_prop::{Ctx, Fail, Make, Runner, Scoped};
+use mn_sums::Sum;
 use std::alloc::{AllocError, Global};
 
 /// What narrows one constraint, of any form.
@@ -17,6 +19,8 @@ use std::alloc::{AllocError, Global};
 pub enum Leaf<'a> {
     /// Two terms or one, and what is checked forward.
     Basic(Basic<'a>),
+    /// Sums.
+    Sum(Sum<'a>),
     /// Equal values that are counted.
     Count(Count<'a>),
     /// Two vectors.
@@ -26,9 +30,17 @@ pub enum Leaf<'a> {
 impl<'a> Leaf<'a> {
     /// What narrows the constraint, beside the tuple lists of the instance.
     pub fn build(alloc: Global, inst: &'a Instance, con: &'a Con) -> Result<Leaf<'a>, AllocError>
+        requires ready { IsReadyToRun (declared_variables inst.now.decls) (beside inst.now.tuples con.now) }
         ensures { IfOk result (λ l. posted_of l ≡ beside inst.now.tuples con.now) }
     {
         match con {
+            Con::Sumleq(_, _)
+            | Con::Sumgeq(_, _)
+            | Con::Weightedsumleq(_, _, _)
+            | Con::Weightedsumgeq(_, _, _)
+            | Con::Watchsumleq(_, _)
+            | Con::Watchsumgeq(_, _)
+            | Con::Litsumgeq(_, _, _) => Ok(Leaf::Sum(Sum::build(alloc, inst, con)?)),
             Con::Alldiff(_) | Con::Nvalueleq(_, _) => {
                 Ok(Leaf::Count(Count::build(alloc, inst, con)?))
             }
@@ -48,6 +60,7 @@ impl Scoped for Leaf<'_> {
     fn places(&self) -> usize {
         match self {
             Leaf::Basic(b) => b.places(),
+            Leaf::Sum(s) => s.places(),
             Leaf::Count(c) => c.places(),
             Leaf::Lex(l) => l.places(),
         }
@@ -56,6 +69,7 @@ impl Scoped for Leaf<'_> {
     fn term(&self, i: usize) -> Term {
         match self {
             Leaf::Basic(b) => b.term(i),
+            Leaf::Sum(s) => s.term(i),
             Leaf::Count(c) => c.term(i),
             Leaf::Lex(l) => l.term(i),
         }
@@ -68,6 +82,7 @@ impl Runner for Leaf<'_> {
     fn settles(&self) -> bool {
         match self {
             Leaf::Basic(b) => b.settles(),
+            Leaf::Sum(s) => s.settles(),
             Leaf::Count(c) => c.settles(),
             Leaf::Lex(l) => l.settles(),
         }
@@ -76,6 +91,7 @@ impl Runner for Leaf<'_> {
     fn pass(&mut self, c: &mut Ctx) -> Result<(), Fail> {
         match self {
             Leaf::Basic(b) => b.pass(c),
+            Leaf::Sum(s) => s.pass(c),
             Leaf::Count(k) => k.pass(c),
             Leaf::Lex(l) => l.pass(c),
         }
