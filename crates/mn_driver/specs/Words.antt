@@ -2,7 +2,7 @@
 use Rattle.std.specs.Prelude.{ℕ, Bool, not, List, map, Option, Some, None, IfSome, IsSomeAnd, String, string_bytes}
 use Rattle.mn_options.specs.Meant.{model_name}
 use Rattle.mn_options.specs.Rules.{asks_for, first_broken}
-use Rattle.mn_options.specs.Words.{word_of}
+use Rattle.mn_options.specs.Words.{words_of}
 use Rattle.mn_options.specs.declared.table.CommandOption.TheVariants.{NoPrintSols, Redump}
 use Rattle.mn_options.specs.declared.usage.Usage.{Usage}
 use Rattle.mn_driver.specs.declared.request.Request.{Request}
@@ -19,7 +19,7 @@ asked_unless None (Some model) shown redump = Some (record { model = model; prin
 asked_unless _ _ shown redump = None
 
 abbrev pub asked : List (List ℕ) → Option Asked
-asked words = asked_unless (first_broken words) (model_name words) (not (asks_for NoPrintSols (map word_of words))) (asks_for Redump (map word_of words))
+asked words = asked_unless (first_broken words) (model_name words) (not (asks_for NoPrintSols (words_of words))) (asks_for Redump (words_of words))
 
 -- the same as it is handed on
 abbrev pub asked_of : Request → Asked
