@@ -7,16 +7,21 @@ use Rattle.mn_options.specs.Rules.{first_broken}
 use Rattle.mn_options.specs.declared.usage.Usage.{Usage as Rule}
 use Rattle.mn_outside.specs.Content.{FileMap, file_at}
 use Rattle.mn_language.specs.Texts.{IsRefused}
-use Rattle.mn_driver.specs.Ends.{BreaksRule, Completes, Ends, FailsToRead, FailsToWrite, HasLongText, IsRefusedFor, Prints, RunsOutOfMemory, completes, prints, is_too_long, fails_to_write, fails_to_read, runs_out, is_refused, breaks_rule}
+use Rattle.mn_report.specs.declared.lines.Outcome.{Outcome}
+use Rattle.mn_report.specs.declared.lines.Outcome.TheVariants as outcome
+use Rattle.mn_driver.specs.Ends.{BreaksRule, IsReported, Ends, FailsToRead, FailsToWrite, HasLongText, IsRefusedFor, Prints, RunsOutOfMemory, reports, prints, is_too_long, fails_to_write, fails_to_read, runs_out, is_refused, breaks_rule}
 use Rattle.mn_driver.specs.Explains.{PrintsText, TellsLength}
+use Rattle.mn_driver.specs.Codes.{status_of}
+use Rattle.mn_driver.specs.Made.{outcome_of}
 use Rattle.mn_driver.specs.Outputs.{Input, Output, IsFaultless}
 use Rattle.mn_driver.specs.Owes.{IsModelStatus, ReportsAll, TextOf, Yields}
 use Rattle.mn_driver.specs.Runs.{Tells, HoldsModel, HoldsRefused, IsAbsent, IsTheModel, IsTheRefused}
-use Rattle.mn_driver.specs.Words.{Asked, asked, asked_unless}
+use Rattle.mn_driver.specs.Words.{Asked, asked, asked_unless, plan_of}
 use Rattle.mn_driver.specs.Written.{WritesReport}
+use Rattle.mn_driver.specs.declared.plan.Plan.{Plan}
 use Rattle.mn_driver.specs.declared.status.Counts.{Counts}
 use Rattle.mn_driver.specs.declared.status.Status.{Status}
-use Rattle.mn_driver.specs.declared.status.Status.TheVariants.{Complete, Printed, Refused, Usage, ReadFault, WriteFault, DumpTooLong, NoMemory}
+use Rattle.mn_driver.specs.declared.status.Status.TheVariants.{Complete, AtSolutionLimit, AtNodeLimit, Printed, Refused, Usage, ReadFault, WriteFault, DumpTooLong, NoMemory}
 use Rattle.mn_driver.proofs.Verdicts.{OneVerdict, never_both, one_refusal_of}
 
 -- 1. What the named file holds is one of three, each without the others
@@ -59,9 +64,9 @@ for_rule P None f = tt
 for_rule P (Some rule) f = f rule refl
 
 -- words that break a rule ask for nothing
-asks_nothing : (broken : Option Rule) (name : Option (List ℕ)) (shown redump : Bool) (rule : Rule) → broken ≡ Some rule → asked_unless broken name shown redump ≡ None
-asks_nothing None name shown redump rule e = cc
-asks_nothing (Some other) name shown redump rule e = refl
+asks_nothing : (broken : Option Rule) (name : Option (List ℕ)) (words : List (List ℕ)) (rule : Rule) → broken ≡ Some rule → asked_unless broken name words ≡ None
+asks_nothing None name words rule e = cc
+asks_nothing (Some other) name words rule e = refl
 
 not_both : (asks : Option Asked) (a : Asked) → asks ≡ Some a → asks ≡ None → ⊥
 not_both asks a some none = let both : None ≡ Some a = sym none ∙ some in cc
@@ -74,22 +79,25 @@ same_rule : {r s : Rule} → Some r ≡ Some s → r ≡ s
 same_rule e = cc
 
 -- 3. The statuses of a run whose file holds a model
-failed_status : (redump : Bool) (status : Status) → status ≡ WriteFault → IsModelStatus redump status
-failed_status true status e = inr (inl e)
-failed_status false status e = inr (inl e)
+module _ (plan : Plan) (p : Problem) where
+  failed_status : (redump : Bool) (status : Status) → status ≡ WriteFault → IsModelStatus redump plan p status
+  failed_status true status e = inr (inl e)
+  failed_status false status e = inr (inl e)
 
-unread_status : (redump : Bool) (status : Status) → status ≡ ReadFault → IsModelStatus redump status
-unread_status true status e = inr (inr (inl e))
-unread_status false status e = inr (inr (inl e))
+  unread_status : (redump : Bool) (status : Status) → status ≡ ReadFault → IsModelStatus redump plan p status
+  unread_status true status e = inr (inr (inl e))
+  unread_status false status e = inr (inr (inl e))
 
-spent_status : (redump : Bool) (status : Status) → status ≡ NoMemory → IsModelStatus redump status
-spent_status true status e = inr (inr (inr e))
-spent_status false status e = inr (inr (inr e))
+  spent_status : (redump : Bool) (status : Status) → status ≡ NoMemory → IsModelStatus redump plan p status
+  spent_status true status e = inr (inr (inr e))
+  spent_status false status e = inr (inr (inr e))
 
 module _ (i : Input) (words : List (List ℕ)) (o : Output) (status : Status) (counts : Counts) (ends : Ends i words o status counts) where
   -- 4. What each status tells
   abbrev pub Fact : Status → Type 0
-  Fact Complete = IsSomeAnd (asked words) (Completes i.told o counts)
+  Fact Complete = IsSomeAnd (asked words) (IsReported outcome.Complete i.told o counts)
+  Fact AtSolutionLimit = IsSomeAnd (asked words) (IsReported outcome.SolutionLimit i.told o counts)
+  Fact AtNodeLimit = IsSomeAnd (asked words) (IsReported outcome.NodeLimit i.told o counts)
   Fact Printed = IsSomeAnd (asked words) (Prints i.told o counts)
   Fact (DumpTooLong n) = IsSomeAnd (asked words) (HasLongText n i.told o counts)
   Fact WriteFault = IsSomeAnd (asked words) (FailsToWrite i.told o counts)
@@ -98,11 +106,16 @@ module _ (i : Input) (words : List (List ℕ)) (o : Output) (status : Status) (c
   Fact (Refused why) = IsSomeAnd (asked words) (IsRefusedFor why i.told o counts)
   Fact (Usage rule) = BreaksRule rule (first_broken words) o counts
 
+  of_outcome : (of : Outcome) → IsSomeAnd (asked words) (IsReported of i.told o counts) → Fact (status_of of)
+  of_outcome outcome.Complete fact = fact
+  of_outcome outcome.SolutionLimit fact = fact
+  of_outcome outcome.NodeLimit fact = fact
+
   pub of_status : (s : Status) → status ≡ s → Fact s
   of_status s e = subst Fact e (by ends)
     where
       by : Ends i words o status counts → Fact status
-      by (completes is fact) = subst Fact (sym is) fact
+      by (reports outcome is fact) = subst Fact (sym is) (of_outcome outcome fact)
       by (prints is fact) = subst Fact (sym is) fact
       by (is_too_long n is fact) = subst Fact (sym is) fact
       by (fails_to_write is fact) = subst Fact (sym is) fact
@@ -112,14 +125,14 @@ module _ (i : Input) (words : List (List ℕ)) (o : Output) (status : Status) (c
       by (breaks_rule rule is fact) = subst Fact (sym is) fact
 
   unasked : (rule : Rule) → first_broken words ≡ Some rule → asked words ≡ None
-  unasked rule broken = asks_nothing (first_broken words) _ _ _ rule broken
+  unasked rule broken = asks_nothing (first_broken words) _ _ rule broken
 
   -- 5. Words that break a rule
   pub broken : IfSome (first_broken words) (λ rule. (status ≡ Usage rule) ⊎ (status ≡ NoMemory))
   broken = for_rule (λ rule. (status ≡ Usage rule) ⊎ (status ≡ NoMemory)) (first_broken words) (λ rule first. by rule first ends)
     where
       by : (rule : Rule) → first_broken words ≡ Some rule → Ends i words o status counts → (status ≡ Usage rule) ⊎ (status ≡ NoMemory)
-      by rule first (completes s is) = absurd (nothing_of _ (asked words) (unasked rule first) is)
+      by rule first (reports outcome s is) = absurd (nothing_of _ (asked words) (unasked rule first) is)
       by rule first (prints s is) = absurd (nothing_of _ (asked words) (unasked rule first) is)
       by rule first (is_too_long n s is) = absurd (nothing_of _ (asked words) (unasked rule first) is)
       by rule first (fails_to_write s is) = absurd (nothing_of _ (asked words) (unasked rule first) is)
@@ -141,13 +154,16 @@ module _ (i : Input) (words : List (List ℕ)) (o : Output) (status : Status) (c
       not_refused : (why : Refusal) → IsRefusedFor why i.told o counts a → ⊥
       not_refused why is = model_not_refused i.told a.model one p why is.place holds (told_so i.told holds.there.0 holds.there.1 is.is)
 
-      model_status : Ends i words o status counts → IsModelStatus a.redump status
-      model_status (completes s is) = let c : Completes i.told o counts a = of_asked _ is in subst (λ r. IsModelStatus r status) (sym c.solves) (inl s)
-      model_status (prints s is) = let c : Prints i.told o counts a = of_asked _ is in subst (λ r. IsModelStatus r status) (sym c.dumps) (inl (inl s))
-      model_status (is_too_long n s is) = let c : HasLongText n i.told o counts a = of_asked _ is in subst (λ r. IsModelStatus r status) (sym c.dumps) (inl (inr (n, s)))
-      model_status (fails_to_write s is) = failed_status a.redump status s
-      model_status (fails_to_read s is) = unread_status a.redump status s
-      model_status (runs_out s out) = spent_status a.redump status s
+      model_status : Ends i words o status counts → IsModelStatus a.redump (plan_of a p.goal) p status
+      model_status (reports of s is) =
+          let c : IsReported of i.told o counts a = of_asked _ is in
+          let same : c.problem ≡ p = sym (c.is.only p holds) in
+          subst (λ r. IsModelStatus r (plan_of a p.goal) p status) (sym c.solves) (inl (s ∙ ap status_of (sym c.outcome_is ∙ ap (λ q. outcome_of (plan_of a q.goal) q) same)))
+      model_status (prints s is) = let c : Prints i.told o counts a = of_asked _ is in subst (λ r. IsModelStatus r (plan_of a p.goal) p status) (sym c.dumps) (inl (inl s))
+      model_status (is_too_long n s is) = let c : HasLongText n i.told o counts a = of_asked _ is in subst (λ r. IsModelStatus r (plan_of a p.goal) p status) (sym c.dumps) (inl (inr (n, s)))
+      model_status (fails_to_write s is) = failed_status (plan_of a p.goal) p a.redump status s
+      model_status (fails_to_read s is) = unread_status (plan_of a p.goal) p a.redump status s
+      model_status (runs_out s out) = spent_status (plan_of a p.goal) p a.redump status s
       model_status (is_refused why s is) = absurd (not_refused why (of_asked _ is))
       model_status (breaks_rule rule s breaks) = absurd (lawful_words rule breaks)
 
@@ -159,11 +175,15 @@ module _ (i : Input) (words : List (List ℕ)) (o : Output) (status : Status) (c
         not_unread : FailsToRead i o counts a → ⊥
         not_unread c = faultless.read c.unread
 
-        report_of : a.redump ≡ false → Ends i words o status counts → ReportsAll a.print_sols p o status counts ⊎ (status ≡ NoMemory)
-        report_of solves (completes s is) =
-            let c : Completes i.told o counts a = of_asked _ is in
+        report_of : a.redump ≡ false → Ends i words o status counts → ReportsAll (plan_of a p.goal) p o status counts ⊎ (status ≡ NoMemory)
+        report_of solves (reports of s is) =
+            let c : IsReported of i.told o counts a = of_asked _ is in
             let same : c.problem ≡ p = sym (c.is.only p holds) in
-            inl (record { complete = s; lawful = subst IsLawful same c.is.lawful; report = subst (λ q. WritesReport a.print_sols q o.before o.after counts) same c.report })
+            inl (record {
+              ended = s ∙ ap status_of (sym c.outcome_is ∙ ap (λ q. outcome_of (plan_of a q.goal) q) same);
+              lawful = subst IsLawful same c.is.lawful;
+              report = subst (λ q. WritesReport (plan_of a q.goal) q o.before o.after counts) same c.report;
+            })
         report_of solves (prints s is) = let c : Prints i.told o counts a = of_asked _ is in absurd (true≢false (sym c.dumps ∙ solves))
         report_of solves (is_too_long n s is) = let c : HasLongText n i.told o counts a = of_asked _ is in absurd (true≢false (sym c.dumps ∙ solves))
         report_of solves (fails_to_write s is) = absurd (not_failed (of_asked _ is))
@@ -173,7 +193,7 @@ module _ (i : Input) (words : List (List ℕ)) (o : Output) (status : Status) (c
         report_of solves (breaks_rule rule s breaks) = absurd (lawful_words rule breaks)
 
         text_of : a.redump ≡ true → Ends i words o status counts → TextOf p o status counts ⊎ (status ≡ NoMemory)
-        text_of dumps (completes s is) = let c : Completes i.told o counts a = of_asked _ is in absurd (true≢false (sym dumps ∙ c.solves))
+        text_of dumps (reports of s is) = let c : IsReported of i.told o counts a = of_asked _ is in absurd (true≢false (sym dumps ∙ c.solves))
         text_of dumps (prints s is) =
             let c : Prints i.told o counts a = of_asked _ is in
             let same : c.problem ≡ p = sym (c.is.only p holds) in
@@ -191,7 +211,7 @@ module _ (i : Input) (words : List (List ℕ)) (o : Output) (status : Status) (c
     -- a text that is refused, and no file
     module _ (expected : Status) (no_model : (p : Problem) → IsTheModel i.told a.model p → ⊥) (refused_is : (why : Refusal) (line : ℕ) → IsTheRefused i.told a.model why line → Refused why ≡ expected) where
       yields : Ends i words o status counts → Yields status expected
-      yields (completes s is) = let c : Completes i.told o counts a = of_asked _ is in absurd (no_model c.problem c.is)
+      yields (reports of s is) = let c : IsReported of i.told o counts a = of_asked _ is in absurd (no_model c.problem c.is)
       yields (prints s is) = let c : Prints i.told o counts a = of_asked _ is in absurd (no_model c.problem c.is)
       yields (is_too_long n s is) = let c : HasLongText n i.told o counts a = of_asked _ is in absurd (no_model c.problem c.is)
       yields (fails_to_write s is) = let c : FailsToWrite i.told o counts a = of_asked _ is in absurd (no_model c.problem c.is)
@@ -201,11 +221,11 @@ module _ (i : Input) (words : List (List ℕ)) (o : Output) (status : Status) (c
       yields (breaks_rule rule s breaks) = absurd (lawful_words rule breaks)
 
   -- 7. So wherever they ask for something
-  pub model : OneVerdict → IfSome (asked words) (λ a. (p : Problem) → HoldsModel i.told a.model p → IsModelStatus a.redump status)
-  model one = for_asked (λ a. (p : Problem) → HoldsModel i.told a.model p → IsModelStatus a.redump status) (asked words) (λ a asks p holds. model_status a asks one p holds ends)
+  pub model : OneVerdict → IfSome (asked words) (λ a. (p : Problem) → HoldsModel i.told a.model p → IsModelStatus a.redump (plan_of a p.goal) p status)
+  model one = for_asked (λ a. (p : Problem) → HoldsModel i.told a.model p → IsModelStatus a.redump (plan_of a p.goal) p status) (asked words) (λ a asks p holds. model_status a asks one p holds ends)
 
-  pub printed : OneVerdict → IfSome (asked words) (λ a. (p : Problem) → a.redump ≡ false → HoldsModel i.told a.model p → IsFaultless i o a.model → ReportsAll a.print_sols p o status counts ⊎ (status ≡ NoMemory))
-  printed one = for_asked (λ a. (p : Problem) → a.redump ≡ false → HoldsModel i.told a.model p → IsFaultless i o a.model → ReportsAll a.print_sols p o status counts ⊎ (status ≡ NoMemory)) (asked words)
+  pub printed : OneVerdict → IfSome (asked words) (λ a. (p : Problem) → a.redump ≡ false → HoldsModel i.told a.model p → IsFaultless i o a.model → ReportsAll (plan_of a p.goal) p o status counts ⊎ (status ≡ NoMemory))
+  printed one = for_asked (λ a. (p : Problem) → a.redump ≡ false → HoldsModel i.told a.model p → IsFaultless i o a.model → ReportsAll (plan_of a p.goal) p o status counts ⊎ (status ≡ NoMemory)) (asked words)
       (λ a asks p solves holds faultless. report_of a asks one p holds faultless solves ends)
 
   pub redumped : OneVerdict → IfSome (asked words) (λ a. (p : Problem) → a.redump ≡ true → HoldsModel i.told a.model p → IsFaultless i o a.model → TextOf p o status counts ⊎ (status ≡ NoMemory))

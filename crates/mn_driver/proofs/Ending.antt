@@ -5,12 +5,13 @@ use Rattle.mn_options.specs.Rules.{first_broken}
 use Rattle.mn_options.specs.declared.usage.Usage.{Usage as Rule}
 use Rattle.mn_options.specs.declared.usage.Usage.TheVariants as rules
 use Rattle.mn_driver.specs.Counting.{HasNone}
-use Rattle.mn_driver.specs.Ends.{Ends, completes, prints, is_too_long, fails_to_write, fails_to_read, runs_out, is_refused, breaks_rule}
-use Rattle.mn_driver.specs.Explains.{Answers, Dumps, Misuses, Refuses, Solves}
+use Rattle.mn_driver.specs.Ends.{Ends, reports, prints, is_too_long, fails_to_write, fails_to_read, runs_out, is_refused, breaks_rule}
+use Rattle.mn_driver.specs.Explains.{Answers, AnswersBy, Dumps, Misuses, Refuses, Solves}
+use Rattle.mn_driver.specs.Made.{outcome_of}
 use Rattle.mn_driver.specs.Loads.{IsOfText, Unloads}
 use Rattle.mn_driver.specs.Outputs.{Input, Output, IsUnread}
 use Rattle.mn_driver.specs.Runs.{IsTheModel}
-use Rattle.mn_driver.specs.Words.{Asked, asked}
+use Rattle.mn_driver.specs.Words.{Asked, asked, plan_of}
 use Rattle.mn_driver.specs.Written.{IsCutOff}
 use Rattle.mn_driver.specs.declared.load.Unloaded.{Unloaded}
 use Rattle.mn_driver.specs.declared.load.Unloaded.TheVariants as unloads
@@ -39,10 +40,10 @@ module _ (i : Input) (words : List (List ℕ)) (o : Output) (status : Status) (c
 
     -- there was one
     module _ (p : Problem) (is : IsTheModel i.told a.model p) where
-      solved_ends : a.redump ≡ false → Solves a.print_sols p o status counts → Ends i words o status counts
-      solved_ends solves (inl (s, report)) = completes s (asked_for _ (record { solves = solves; problem = p; is = is; report = report }))
+      solved_ends : a.redump ≡ false → Solves (plan_of a p.goal) p o status counts → Ends i words o status counts
+      solved_ends solves (inl (s, report)) = reports (outcome_of (plan_of a p.goal) p) s (asked_for _ (record { solves = solves; problem = p; is = is; outcome_is = refl; report = report }))
       solved_ends solves (inr (inl (s, cut))) =
-          fails_to_write s (asked_for _ (record { problem = p; is = is; failed = cut.failed; cut = subst (λ r. IsCutOff r a.print_sols p o.before o.after counts) (sym solves) (cut.some, cut.next, cut.all) }))
+          fails_to_write s (asked_for _ (record { problem = p; is = is; failed = cut.failed; cut = subst (λ r. IsCutOff r (plan_of a p.goal) p o.before o.after counts) (sym solves) (cut.some, cut.next, cut.all) }))
       solved_ends solves (inr (inr (s, out))) =
           runs_out s (record { done = out.done; stopped = inr (asked_for _ (solves, p, is, out.front, out.counted, out.visits)); line = out.line })
 
@@ -50,12 +51,12 @@ module _ (i : Input) (words : List (List ℕ)) (o : Output) (status : Status) (c
       dumped_ends dumps (inl (s, text)) = prints s (asked_for _ (record { dumps = dumps; problem = p; is = is; text = text }))
       dumped_ends dumps (inr (inl (n, s, long))) = is_too_long n s (asked_for _ (record { dumps = dumps; problem = p; is = is; length_is = long }))
       dumped_ends dumps (inr (inr (inl (s, none, cut)))) =
-          fails_to_write s (asked_for _ (record { problem = p; is = is; failed = cut.failed; cut = subst (λ r. IsCutOff r a.print_sols p o.before o.after counts) (sym dumps) (none, (cut.part, cut.front, cut.written)) }))
+          fails_to_write s (asked_for _ (record { problem = p; is = is; failed = cut.failed; cut = subst (λ r. IsCutOff r (plan_of a p.goal) p o.before o.after counts) (sym dumps) (none, (cut.part, cut.front, cut.written)) }))
       dumped_ends dumps (inr (inr (inr (none, (s, line))))) = runs_out s (record { done = []; stopped = inl (refl, none); line = line })
 
-      pub answered_ends : Answers a.redump a.print_sols p o status counts → Ends i words o status counts
+      pub answered_ends : Answers a p o status counts → Ends i words o status counts
       answered_ends answers = by a.redump refl answers
         where
-          by : (redump : Bool) → a.redump ≡ redump → Answers redump a.print_sols p o status counts → Ends i words o status counts
+          by : (redump : Bool) → a.redump ≡ redump → AnswersBy redump (plan_of a p.goal) p o status counts → Ends i words o status counts
           by true dumps answers = dumped_ends dumps answers
           by false solves answers = solved_ends solves answers

@@ -1,37 +1,42 @@
 -- How a run ends once its output was flushed, or failed to be.
-use Rattle.std.proofs.Common.{◌≡◌, ℕ, ◌≤◌, Bool, true, false, List, [], Option, IsSomeAnd, Some, None, append-nil, sym, ap, subst, ◌∙◌, inl, inr, length}
+use Rattle.std.proofs.Common.{◌≡◌, ℕ, ◌≤◌, true, List, [], Option, IsSomeAnd, Some, None, append-nil, refl, sym, ap, subst, ◌∙◌, inl, inr}
 use Rattle.mn_model.specs.Problem.{Problem}
-use Rattle.mn_meaning.specs.Solutions.{listed}
 use Rattle.mn_outside.specs.Faults.{HasRisen}
 use Rattle.mn_outside.specs.Laws.{HasRisen-before, HasRisen-after}
 use Rattle.mn_canonical.specs.Canonical.{canonical_text}
-use Rattle.mn_report.specs.Lines.{summary_text}
-use Rattle.mn_report.specs.declared.lines.Outcome.TheVariants as outcome
-use Rattle.mn_driver.specs.Codes.{unflushed}
-use Rattle.mn_driver.specs.Ends.{Ends, completes, prints, is_too_long, fails_to_write, fails_to_read, runs_out, is_refused, breaks_rule}
+use Rattle.mn_report.specs.declared.lines.Outcome.{Outcome}
+use Rattle.mn_report.specs.declared.lines.Outcome.TheVariants.{Complete, SolutionLimit, NodeLimit}
+use Rattle.mn_driver.specs.Codes.{status_of, unflushed}
+use Rattle.mn_driver.specs.Ends.{Ends, reports, prints, is_too_long, fails_to_write, fails_to_read, runs_out, is_refused, breaks_rule}
 use Rattle.mn_driver.specs.Outputs.{Input, AddsLine}
-use Rattle.mn_driver.specs.Report.{capped, report}
-use Rattle.mn_driver.specs.Words.{Asked, asked}
+use Rattle.mn_driver.specs.Report.{report, summary_of}
+use Rattle.mn_driver.specs.Words.{Asked, asked, plan_of}
 use Rattle.mn_driver.specs.Written.{CountsToNext, IsCutOff, WritesReport, WritesSome}
+use Rattle.mn_driver.specs.declared.plan.Plan.{Plan}
 use Rattle.mn_driver.specs.declared.status.Counts.{Counts}
 use Rattle.mn_driver.specs.declared.status.Status.{Status}
+use Rattle.mn_driver.specs.declared.status.Status.TheVariants.{WriteFault}
 use Rattle.mn_driver.proofs.Lines.{between}
 use Rattle.mn_driver.proofs.Solving.{all_counted, all_to_next}
 
 -- the whole report is a report in part
-whole_is_some : (shown : Bool) (p : Problem) (old new : Option (List ℕ)) (counts : Counts) → WritesReport shown p old new counts → WritesSome shown p old new counts
-whole_is_some shown p old new counts whole = record {
-  bytes = report shown p whole.all.visits;
+whole_is_some : (plan : Plan) (p : Problem) (old new : Option (List ℕ)) (counts : Counts) → WritesReport plan p old new counts → WritesSome plan p old new counts
+whole_is_some plan p old new counts whole = record {
+  bytes = report plan p;
   written = whole.written;
-  front = inr (whole.all.visits, whole.all.has, ([], sym (append-nil (report shown p whole.all.visits))));
-  counted = all_counted shown p (summary_text (capped (length (listed p))) (capped whole.all.visits) outcome.Complete) counts.solutions whole.all.solutions;
+  front = ([], sym (append-nil (report plan p)));
+  counted = all_counted plan p (summary_of plan p) counts.solutions whole.all.solutions;
 }
 
 -- and all visits were counted
-whole_to_next : (shown : Bool) (p : Problem) (old new : Option (List ℕ)) (counts : Counts) → shown ≡ true → WritesReport shown p old new counts → CountsToNext p old new counts
-whole_to_next false p old new counts printed whole = cc
-whole_to_next true p old new counts printed whole =
-    all_to_next p old new counts whole.all.visits (summary_text (capped (length (listed p))) (capped whole.all.visits) outcome.Complete) whole.all.has whole.written whole.all.solutions whole.all.nodes
+whole_to_next : (plan : Plan) (p : Problem) (old new : Option (List ℕ)) (counts : Counts) → plan.shown ≡ true → WritesReport plan p old new counts → CountsToNext plan p old new counts
+whole_to_next plan p old new counts printed whole = all_to_next plan p old new counts (summary_of plan p) printed whole.written whole.all
+
+-- a report that is whole is one in part, if the last flush fails
+unflushed_report : (outcome : Outcome) → unflushed (status_of outcome) ≡ WriteFault
+unflushed_report Complete = refl
+unflushed_report SolutionLimit = refl
+unflushed_report NodeLimit = refl
 
 pub map_asked : {P Q : Asked → Type 0} (asks : Option Asked) → ((a : Asked) → P a → Q a) → IsSomeAnd asks P → IsSomeAnd asks Q
 map_asked None f p = p
@@ -44,7 +49,7 @@ module _ (i : Input) (words : List (List ℕ)) (old new : Option (List ℕ)) (be
 
   -- the output was flushed
   ends_later : (status : Status) (counts : Counts) → Ends i words (between old new before after) status counts → Ends i words (between old new before later) status counts
-  ends_later status counts (completes s is) = completes s (map_asked (asked words) (λ a c. record { solves = c.solves; problem = c.problem; is = c.is; report = c.report }) is)
+  ends_later status counts (reports outcome s is) = reports outcome s (map_asked (asked words) (λ a c. record { solves = c.solves; problem = c.problem; is = c.is; outcome_is = c.outcome_is; report = c.report }) is)
   ends_later status counts (prints s is) =
       prints s (map_asked (asked words) (λ a c. record { dumps = c.dumps; problem = c.problem; is = c.is; text = record { none = c.text.none; fits = c.text.fits; written = c.text.written } }) is)
   ends_later status counts (is_too_long n s is) =
@@ -65,18 +70,18 @@ module _ (i : Input) (words : List (List ℕ)) (old new : Option (List ℕ)) (be
       stays same = subst (λ s. Ends i words (between old new before later) s counts) same (ends_later status counts ends)
 
       by : Ends i words (between old new before after) status counts → Ends i words (between old new before later) (unflushed status) counts
-      by (completes s is) = fails_to_write (ap unflushed s) (map_asked (asked words) (λ a c. record {
+      by (reports outcome s is) = fails_to_write (ap unflushed s ∙ unflushed_report outcome) (map_asked (asked words) (λ a c. record {
         problem = c.problem;
         is = c.is;
         failed = HasRisen-before before after later kept risen;
-        cut = subst (λ r. IsCutOff r a.print_sols c.problem old new counts) (sym c.solves)
-            (whole_is_some a.print_sols c.problem old new counts c.report, λ printed. whole_to_next a.print_sols c.problem old new counts printed c.report, λ _. c.report.all);
+        cut = subst (λ r. IsCutOff r (plan_of a c.problem.goal) c.problem old new counts) (sym c.solves)
+            (whole_is_some (plan_of a c.problem.goal) c.problem old new counts c.report, λ printed. whole_to_next (plan_of a c.problem.goal) c.problem old new counts printed c.report, λ _. c.report.all);
       }) is)
       by (prints s is) = fails_to_write (ap unflushed s) (map_asked (asked words) (λ a c. record {
         problem = c.problem;
         is = c.is;
         failed = HasRisen-before before after later kept risen;
-        cut = subst (λ r. IsCutOff r a.print_sols c.problem old new counts) (sym c.dumps)
+        cut = subst (λ r. IsCutOff r (plan_of a c.problem.goal) c.problem old new counts) (sym c.dumps)
             (c.text.none, (canonical_text c.problem, ([], sym (append-nil (canonical_text c.problem))), c.text.written));
       }) is)
       by (is_too_long n s is) = stays (s ∙ sym (ap unflushed s))

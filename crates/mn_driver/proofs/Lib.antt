@@ -1,14 +1,14 @@
 pub mod Verdicts
 pub mod Solving
+pub mod Making
 pub mod Loading
 pub mod Lines
 pub mod Flushed
 pub mod Clauses
-pub mod Assigning
 pub mod Going
 pub mod Reading
-pub mod Turned
 pub mod Spelled
 pub mod Ending
 pub mod Dumping
 pub mod Stopping
+pub mod Limiting

@@ -1,5 +1,5 @@
 -- Lines that are written behind what a run has written.
-use Rattle.std.proofs.Common.{◌≡◌, ℕ, ◌≤◌, Bool, List, [], Option, Result, OnOk, OnErr, Ok, Err, take, ap, ◌∙◌, inl, inr}
+use Rattle.std.proofs.Common.{◌≡◌, ℕ, ◌≤◌, List, [], Option, Result, OnOk, OnErr, Ok, Err, take, ap, ◌∙◌, inl, inr}
 use Rattle.mn_model.specs.Problem.{Problem}
 use Rattle.mn_outside.specs.Content.{WritesPart, with_bytes}
 use Rattle.mn_outside.specs.Laws.{HasRisen-before, with_bytes-with_bytes}
@@ -7,6 +7,7 @@ use Rattle.mn_driver.specs.Explains.{RunsOut}
 use Rattle.mn_driver.specs.Outputs.{Output, Adds, AddsLine, HasFailed}
 use Rattle.mn_driver.specs.Report.{memory_line}
 use Rattle.mn_driver.specs.Written.{CountsSomeVisits, WritesSome}
+use Rattle.mn_driver.specs.declared.plan.Plan.{Plan}
 use Rattle.mn_driver.specs.declared.status.Counts.{Counts}
 use Rattle.mn_driver.proofs.Solving.{part_is_front}
 
@@ -26,9 +27,9 @@ said_behind old mid new before middle after done line first kept (inr (risen, (p
     inr (HasRisen-before before middle after kept risen, (part, front, is ∙ (ap (λ told. with_bytes told part) first ∙ with_bytes-with_bytes old done part)))
 
 -- so is the line of want of memory
-pub memory_said : (shown : Bool) (p : Problem) (old mid new : Option (List ℕ)) (before middle after : ℕ) (counts : Counts) → WritesSome shown p old mid counts → CountsSomeVisits p counts.nodes → before ≤ middle → AddsLine (between mid new middle after) [] memory_line
-    → RunsOut shown p (between old new before after) counts
-memory_said shown p old mid new before middle after counts some made kept line = record {
+pub memory_said : (plan : Plan) (p : Problem) (old mid new : Option (List ℕ)) (before middle after : ℕ) (counts : Counts) → WritesSome plan p old mid counts → CountsSomeVisits plan p counts.nodes → before ≤ middle → AddsLine (between mid new middle after) [] memory_line
+    → RunsOut plan p (between old new before after) counts
+memory_said plan p old mid new before middle after counts some made kept line = record {
   done = some.bytes;
   front = some.front;
   counted = some.counted;

@@ -7,24 +7,28 @@ use Rattle.mn_options.specs.Rules.{first_broken}
 use Rattle.mn_options.specs.declared.usage.Usage.{Usage as Rule}
 use Rattle.mn_outside.specs.Content.{FileMap}
 use Rattle.mn_report.specs.Lines.{refused_text}
+use Rattle.mn_report.specs.declared.lines.Outcome.{Outcome}
+use Rattle.mn_driver.specs.Codes.{status_of}
 use Rattle.mn_driver.specs.Counting.{HasNone}
 use Rattle.mn_driver.specs.Explains.{PrintsText, TellsLength}
+use Rattle.mn_driver.specs.Made.{outcome_of}
 use Rattle.mn_driver.specs.Outputs.{Input, Output, AddsLine, HasFailed, IsUnread}
 use Rattle.mn_driver.specs.Owes.{StoppedAt}
 use Rattle.mn_driver.specs.Report.{memory_line, read_line, usage_line}
 use Rattle.mn_driver.specs.Runs.{IsTheModel, IsTheRefused}
-use Rattle.mn_driver.specs.Words.{Asked, asked}
+use Rattle.mn_driver.specs.Words.{Asked, asked, plan_of}
 use Rattle.mn_driver.specs.Written.{IsCutOff, WritesReport}
 use Rattle.mn_driver.specs.declared.status.Counts.{Counts}
 use Rattle.mn_driver.specs.declared.status.Status.{Status}
-use Rattle.mn_driver.specs.declared.status.Status.TheVariants.{Complete, Printed, Refused, Usage, ReadFault, WriteFault, DumpTooLong, NoMemory}
+use Rattle.mn_driver.specs.declared.status.Status.TheVariants.{Printed, Refused, Usage, ReadFault, WriteFault, DumpTooLong, NoMemory}
 
--- the whole report of the model that was asked for
-pub record Completes (told : Option FileMap) (o : Output) (counts : Counts) (a : Asked) : Type 0 where
+-- the whole report of the model that was asked for, of which this is the outcome
+pub record IsReported (outcome : Outcome) (told : Option FileMap) (o : Output) (counts : Counts) (a : Asked) : Type 0 where
   pub solves : a.redump ≡ false
   pub problem : Problem
   pub is : IsTheModel told a.model problem
-  pub report : WritesReport a.print_sols problem o.before o.after counts
+  pub outcome_is : outcome_of (plan_of a problem.goal) problem ≡ outcome
+  pub report : WritesReport (plan_of a problem.goal) problem o.before o.after counts
 
 -- its text, where that was asked for and isn't too long
 pub record Prints (told : Option FileMap) (o : Output) (counts : Counts) (a : Asked) : Type 0 where
@@ -45,7 +49,7 @@ pub record FailsToWrite (told : Option FileMap) (o : Output) (counts : Counts) (
   pub problem : Problem
   pub is : IsTheModel told a.model problem
   pub failed : HasFailed o
-  pub cut : IsCutOff a.redump a.print_sols problem o.before o.after counts
+  pub cut : IsCutOff a.redump (plan_of a problem.goal) problem o.before o.after counts
 
 -- reading the model failed, and nothing but the line of that fault was written
 pub record FailsToRead (i : Input) (o : Output) (counts : Counts) (a : Asked) : Type 0 where
@@ -75,7 +79,7 @@ pub record RunsOutOfMemory (told : Option FileMap) (asks : Option Asked) (o : Ou
 
 -- a run ends in one of these ways
 pub data Ends (i : Input) (words : List (List ℕ)) (o : Output) (status : Status) (counts : Counts) : Type 0 where
-  completes : status ≡ Complete → IsSomeAnd (asked words) (Completes i.told o counts) → Ends i words o status counts
+  reports : (outcome : Outcome) → status ≡ status_of outcome → IsSomeAnd (asked words) (IsReported outcome i.told o counts) → Ends i words o status counts
   prints : status ≡ Printed → IsSomeAnd (asked words) (Prints i.told o counts) → Ends i words o status counts
   is_too_long : (n : ℕ) → status ≡ DumpTooLong n → IsSomeAnd (asked words) (HasLongText n i.told o counts) → Ends i words o status counts
   fails_to_write : status ≡ WriteFault → IsSomeAnd (asked words) (FailsToWrite i.told o counts) → Ends i words o status counts

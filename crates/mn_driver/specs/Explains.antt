@@ -8,15 +8,19 @@ use Rattle.mn_canonical.specs.Canonical.{canonical_text}
 use Rattle.mn_printer.specs.declared.sections.PrintFault.{PrintFault}
 use Rattle.mn_printer.specs.declared.sections.PrintFault.TheVariants as prints
 use Rattle.mn_report.specs.Lines.{refused_text}
+use Rattle.mn_driver.specs.Codes.{status_of}
 use Rattle.mn_driver.specs.Counting.{HasNone}
+use Rattle.mn_driver.specs.Made.{outcome_of}
 use Rattle.mn_driver.specs.Outputs.{Output, Adds, AddsLine, HasFailed}
 use Rattle.mn_driver.specs.Report.{capped, dump_line, memory_line, read_line, usage_line}
+use Rattle.mn_driver.specs.Words.{Asked, plan_of}
 use Rattle.mn_driver.specs.Written.{CountsAll, CountsSolutions, CountsSomeVisits, CountsToNext, IsFrontOf, IsFrontOfReport, WritesReport, WritesSome}
 use Rattle.mn_driver.specs.declared.load.Unloaded.{Unloaded}
 use Rattle.mn_driver.specs.declared.load.Unloaded.TheVariants as unloads
+use Rattle.mn_driver.specs.declared.plan.Plan.{Plan}
 use Rattle.mn_driver.specs.declared.status.Counts.{Counts}
 use Rattle.mn_driver.specs.declared.status.Status.{Status}
-use Rattle.mn_driver.specs.declared.status.Status.TheVariants.{Complete, Printed, Refused, Usage, ReadFault, WriteFault, DumpTooLong, NoMemory}
+use Rattle.mn_driver.specs.declared.status.Status.TheVariants.{Printed, Refused, Usage, ReadFault, WriteFault, DumpTooLong, NoMemory}
 
 -- nothing but the line of want of memory
 abbrev pub SaysMemory : Output → Status → Type 0
@@ -25,25 +29,25 @@ SaysMemory o status = (status ≡ NoMemory) × AddsLine o [] memory_line
 -- 1. The report of an instance
 
 -- the output failed in it
-pub record CutsReport (shown : Bool) (p : Problem) (o : Output) (counts : Counts) : Type 0 where
+pub record CutsReport (plan : Plan) (p : Problem) (o : Output) (counts : Counts) : Type 0 where
   pub failed : HasFailed o
-  pub some : WritesSome shown p o.before o.after counts
-  pub next : shown ≡ true → CountsToNext p o.before o.after counts
-  pub all : shown ≡ false → CountsAll p counts
+  pub some : WritesSome plan p o.before o.after counts
+  pub next : plan.shown ≡ true → CountsToNext plan p o.before o.after counts
+  pub all : plan.shown ≡ false → CountsAll plan p counts
 
 -- memory ran out in it
-pub record RunsOut (shown : Bool) (p : Problem) (o : Output) (counts : Counts) : Type 0 where
+pub record RunsOut (plan : Plan) (p : Problem) (o : Output) (counts : Counts) : Type 0 where
   pub done : List ℕ
-  pub front : IsFrontOfReport shown p done
-  pub counted : CountsSolutions shown p done counts.solutions
-  pub visits : CountsSomeVisits p counts.nodes
+  pub front : IsFrontOfReport plan p done
+  pub counted : CountsSolutions plan p done counts.solutions
+  pub visits : CountsSomeVisits plan p counts.nodes
   pub line : AddsLine o done memory_line
 
-abbrev pub Solves : Bool → Problem → Output → Status → Counts → Type 0
-Solves shown p o status counts =
-    ((status ≡ Complete) × WritesReport shown p o.before o.after counts)
-    ⊎ ((status ≡ WriteFault) × CutsReport shown p o counts)
-    ⊎ ((status ≡ NoMemory) × RunsOut shown p o counts)
+abbrev pub Solves : Plan → Problem → Output → Status → Counts → Type 0
+Solves plan p o status counts =
+    ((status ≡ status_of (outcome_of plan p)) × WritesReport plan p o.before o.after counts)
+    ⊎ ((status ≡ WriteFault) × CutsReport plan p o counts)
+    ⊎ ((status ≡ NoMemory) × RunsOut plan p o counts)
 
 -- 2. Its text
 
@@ -81,9 +85,12 @@ Dumps p o status counts =
     ⊎ (HasNone counts × SaysMemory o status)
 
 -- its text where that was asked for, and its report else
-abbrev pub Answers : Bool → Bool → Problem → Output → Status → Counts → Type 0
-Answers true shown p o status counts = Dumps p o status counts
-Answers false shown p o status counts = Solves shown p o status counts
+abbrev pub AnswersBy : Bool → Plan → Problem → Output → Status → Counts → Type 0
+AnswersBy true plan p o status counts = Dumps p o status counts
+AnswersBy false plan p o status counts = Solves plan p o status counts
+
+abbrev pub Answers : Asked → Problem → Output → Status → Counts → Type 0
+Answers a p o status counts = AnswersBy a.redump (plan_of a p.goal) p o status counts
 
 -- 3. Where there is no instance, by why; and where the words break a rule
 abbrev pub Refuses : Unloaded → Output → Status → Type 0

@@ -3,9 +3,9 @@ pub mod Counting
 pub mod Ends
 pub mod Explains
 pub mod Loads
+pub mod Made
 pub mod Outputs
 pub mod Owes
-pub mod Owing
 pub mod Report
 pub mod Reports
 pub mod Runs

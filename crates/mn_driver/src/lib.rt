@@ -12,6 +12,7 @@
 #![tactic(auto)]
 
 mod load;
+mod plan;
 mod program;
 mod request;
 mod solve;

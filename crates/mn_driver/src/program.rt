@@ -7,18 +7,20 @@ ghost use Rattle.mn_model.specs.Members.{AreDistinct, HoldsInOrder};
 ghost use Rattle.mn_model.specs.Problem.{Problem};
 ghost use Rattle.mn_model.specs.declared.refusal.Refusal.{Refusal};
 ghost use Rattle.mn_options.specs.declared.usage.Usage.{Usage};
-ghost use Rattle.mn_driver.specs.Codes.{unflushed};
+ghost use Rattle.mn_driver.specs.Codes.{status_of, unflushed};
 ghost use Rattle.mn_driver.specs.Counting.{HasNone};
-ghost use Rattle.mn_driver.specs.Ends.{BreaksRule, Completes, Ends, FailsToRead, FailsToWrite, HasLongText, IsRefusedFor, Prints, RunsOutOfMemory};
+ghost use Rattle.mn_driver.specs.Ends.{BreaksRule, IsReported, Ends, FailsToRead, FailsToWrite, HasLongText, IsRefusedFor, Prints, RunsOutOfMemory};
 ghost use Rattle.mn_driver.specs.Explains.{Answers, Dumps, Misuses, PutsText, Refuses, SaysMemory, Solves, Undumps};
 ghost use Rattle.mn_driver.specs.Loads.{IsOfText};
+ghost use Rattle.mn_driver.specs.Made.{AreLimits, HasLimits};
 ghost use Rattle.mn_driver.specs.Outputs.{AddsLine, IsFaultless, input_of, output_of};
 ghost use Rattle.mn_driver.specs.Owes.{IsModelStatus, ReportsAll, TextOf, Yields};
 ghost use Rattle.mn_driver.specs.Report.{usage_line};
 ghost use Rattle.mn_driver.specs.Runs.{HoldsModel, HoldsRefused, IsAbsent};
-ghost use Rattle.mn_driver.specs.Words.{Ask, WhereAsked, asked_by, broken_by};
+ghost use Rattle.mn_driver.specs.Words.{Ask, WhereAsked, asked_by, asked_of, broken_by, plan_of};
 
 use crate::load::{Unloaded, load};
+use crate::plan::Plan;
 use crate::request::{Request, requested};
 use crate::solve::{Stop, solve};
 use crate::status::{Counts, Ended, Status};
@@ -28,7 +30,9 @@ use mn_model::Instance;
 use mn_options::Usage;
 use mn_outside::{Failed, Files, Sink, put_all};
 use mn_printer::{PrintFault, print};
-use mn_report::{MEMORY_LINE, NO_MODEL_LINE, READ_LINE, number_line, refused_line, usage_line};
+use mn_report::{
+    MEMORY_LINE, NO_MODEL_LINE, Outcome, READ_LINE, number_line, refused_line, usage_line,
+};
 use std::alloc::{AllocError, Global};
 
 /// Writes a line that tells of a fault. Where that fails there is nothing left to say.
@@ -60,15 +64,27 @@ fn write_memory<O: Sink>(out: &mut O) -> Ended
     uncounted(Status::NoMemory)
 }
 
+/// The status of a run whose report is whole.
+fn status_of(outcome: Outcome) -> Status
+    ensures { result ≡ status_of outcome }
+{
+    match outcome {
+        Outcome::Complete => Status::Complete,
+        Outcome::SolutionLimit => Status::AtSolutionLimit,
+        Outcome::NodeLimit => Status::AtNodeLimit,
+    }
+}
+
 /// Writes the report of an instance, and for want of memory the line of that fault behind what was written.
-fn write_report<O: Sink>(alloc: Global, inst: &Instance, shown: bool, out: &mut O) -> Ended
-    ensures solves { Solves shown inst.now (output_of O.content O.faults out.old out.new) result.status result.counts }
+fn write_report<O: Sink>(alloc: Global, inst: &Instance, plan: &Plan, out: &mut O) -> Ended
+    requires limits { HasLimits plan.now }
+    ensures solves { Solves plan.now inst.now (output_of O.content O.faults out.old out.new) result.status result.counts }
     ensures kept { O.faults out.old ≤ O.faults out.new }
 {
-    match solve(alloc, inst, shown, out) {
-        Ok(counts) => Ended {
-            status: Status::Complete,
-            counts,
+    match solve(alloc, inst, plan, out) {
+        Ok(solved) => Ended {
+            status: status_of(solved.outcome),
+            counts: solved.counts,
         },
         Err(stopped) => match stopped.why {
             Stop::Failed => Ended {
@@ -194,14 +210,15 @@ fn write_dump<O: Sink>(alloc: Global, inst: &Instance, out: &mut O) -> Ended
 
 /// Does what the words ask for with an instance.
 fn write_answer<O: Sink>(alloc: Global, inst: &Instance, request: &Request, out: &mut O) -> Ended
-    ensures answers { Answers request.now.redump request.now.print_sols inst.now
+    requires limits { AreLimits request.now.sol_limit request.now.node_limit }
+    ensures answers { Answers (asked_of request.now) inst.now
         (output_of O.content O.faults out.old out.new) result.status result.counts }
     ensures kept { O.faults out.old ≤ O.faults out.new }
 {
     if request.redump {
         write_dump(alloc, inst, out)
     } else {
-        write_report(alloc, inst, request.print_sols, out)
+        write_report(alloc, inst, &request.plan(inst.goal()), out)
     }
 }
 
@@ -233,7 +250,9 @@ fn unflushed(ended: Ended) -> Ended
     ensures counts { result.counts ≡ ended.counts }
 {
     let status = match ended.status {
-        Status::Complete | Status::Printed => Status::WriteFault,
+        Status::Complete | Status::AtSolutionLimit | Status::AtNodeLimit | Status::Printed => {
+            Status::WriteFault
+        }
         other => other,
     };
     Ended { status, ..ended }
@@ -270,7 +289,7 @@ pub fn run<F: Files, O: Sink>(
         → a.redump ≡ false → HoldsModel (F.content files.old) a.model p
         → IsFaultless (input_of F.content F.reading files.old files.new)
         (output_of O.content O.faults out.old out.new) a.model
-        → ReportsAll a.print_sols p (output_of O.content O.faults out.old out.new) result.status result.counts
+        → ReportsAll (plan_of a p.goal) p (output_of O.content O.faults out.old out.new) result.status result.counts
         ⊎ (result.status ≡ Status.NoMemory)) }
     ensures redumped { WhereAsked words.now.items (λ a. (p : Problem)
         → a.redump ≡ true → HoldsModel (F.content files.old) a.model p
@@ -284,7 +303,13 @@ pub fn run<F: Files, O: Sink>(
 
     // Complete: the whole report of the one instance of which the named file holds a text.
     ensures complete { result.status ≡ Status.Complete → Ask words.now.items
-        (Completes (F.content files.old) (output_of O.content O.faults out.old out.new) result.counts) }
+        (IsReported Outcome.Complete (F.content files.old) (output_of O.content O.faults out.old out.new) result.counts) }
+
+    // At a limit: the report of that instance up to there, and a visit is left.
+    ensures at_solution_limit { result.status ≡ Status.AtSolutionLimit → Ask words.now.items
+        (IsReported Outcome.SolutionLimit (F.content files.old) (output_of O.content O.faults out.old out.new) result.counts) }
+    ensures at_node_limit { result.status ≡ Status.AtNodeLimit → Ask words.now.items
+        (IsReported Outcome.NodeLimit (F.content files.old) (output_of O.content O.faults out.old out.new) result.counts) }
 
     // Printed: the canonical text of that instance, where it was asked for and isn't too long. Else how long it is.
     ensures dumped { result.status ≡ Status.Printed → Ask words.now.items
@@ -320,7 +345,7 @@ pub fn run<F: Files, O: Sink>(
 
     // Where the files tell, each file has its answer, unless reading fails or memory runs out.
     ensures model { WhereAsked words.now.items (λ a. (p : Problem)
-        → HoldsModel (F.content files.old) a.model p → IsModelStatus a.redump result.status) }
+        → HoldsModel (F.content files.old) a.model p → IsModelStatus a.redump (plan_of a p.goal) p result.status) }
     ensures refuses { WhereAsked words.now.items (λ a. (why : Refusal) (line : ℕ)
         → HoldsRefused (F.content files.old) a.model why line → Yields result.status (Status.Refused why)) }
     ensures absent { WhereAsked words.now.items (λ a.

@@ -32,8 +32,12 @@ pub struct Ended {
 /// How a run ended.
 #[derive(Clone, Copy, Debug, PartialEq, Eq)]
 pub enum Status {
-    /// All solutions were written.
+    /// All that is to be written was written, and no visit is left.
     Complete,
+    /// As many solutions were found as were asked for, and a visit is left.
+    AtSolutionLimit,
+    /// As many visits were made as were asked for at most, and another is left.
+    AtNodeLimit,
     /// The model's text was written, as it was asked for in place of its solutions.
     Printed,
     /// The text stands for no instance.
@@ -56,7 +60,7 @@ impl Status {
         ensures { result ≡ code_of self.now }
     {
         match self {
-            Status::Complete | Status::Printed => 0,
+            Status::Complete | Status::AtSolutionLimit | Status::AtNodeLimit | Status::Printed => 0,
             Status::Refused(_) => 1,
             Status::Usage(_) => 2,
             Status::ReadFault => 3,

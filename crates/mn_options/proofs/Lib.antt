@@ -1,2 +1,4 @@
+pub mod Digits
 pub mod Lawful
+pub mod Limited
 pub mod Unbroken

@@ -1,17 +1,55 @@
 -- What lawful words ask for.
-use Rattle.std.specs.Prelude.{◌≡◌, ℕ, not, List, map, Option, option_map, find, chars}
+use Rattle.std.specs.Prelude.{◌≡◌, ℕ, not, if◌then◌else◌, List, [], ◌∷◌, Option, Some, None, option_map, unwrap_or, chars}
+use Rattle.std.specs.Option.{option_or}
+use Rattle.mn_order.specs.declared.choice.Choice.{Choice}
+use Rattle.mn_order.specs.declared.choice.Choice.TheVariants.{Fixed}
 use Rattle.mn_options.specs.Rules.{asks_for, is_model}
-use Rattle.mn_options.specs.Words.{word_of}
+use Rattle.mn_options.specs.Words.{same_option, words_of}
 use Rattle.mn_options.specs.declared.options.Options.{Options}
-use Rattle.mn_options.specs.declared.table.CommandOption.TheVariants.{FindAllSols, NoPrintSols, Redump}
+use Rattle.mn_options.specs.declared.table.CommandOption.{CommandOption}
+use Rattle.mn_options.specs.declared.table.CommandOption.TheVariants.{FindAllSols, NodeLimit, NoPrintSols, Redump, SolLimit}
+use Rattle.mn_options.specs.declared.words.Word.{Word}
+use Rattle.mn_options.specs.declared.words.Word.TheVariants.{Limit, Order}
+
+-- the first that something tells of the words
+abbrev pub first_told : {X : Type 0} → (Word → Option X) → List Word → Option X
+first_told told [] = None
+first_told told (word ∷ words) = option_or (told word) (first_told told words)
+
+-- the limit that a word gives this option
+abbrev pub limit_at : CommandOption → Word → Option ℕ
+limit_at option (Limit other limit) = if same_option option other then limit else None
+limit_at option _ = None
+
+-- the limit that the words give it
+abbrev pub limit_of : CommandOption → List Word → Option ℕ
+limit_of option words = first_told (limit_at option) words
+
+-- the order that a word names
+abbrev pub order_at : Word → Option Choice
+order_at (Order order) = order
+order_at _ = None
+
+-- how the words choose a variable: the first of its order where they don't say
+abbrev pub choice_of : List Word → Choice
+choice_of words = unwrap_or (first_told order_at words) Fixed
+
+-- the text beside the word that names the model
+abbrev pub named_by : List Word → List (List ℕ) → Option (List ℕ)
+named_by [] texts = None
+named_by (word ∷ words) [] = None
+named_by (word ∷ words) (text ∷ texts) = if is_model word then Some text else named_by words texts
 
 -- the word that names the model
 abbrev pub model_name : List (List ℕ) → Option (List ℕ)
-model_name words = find (λ word. is_model (word_of word)) words
+model_name words = named_by (words_of words) words
 
 -- the options are those that the words ask for, and the model is the one that they name
 pub record AreOptions (words : List (List ℕ)) (o : Options) : Type 0 where
   pub model : o.model ≡ option_map chars (model_name words)
-  pub find_all : o.find_all ≡ asks_for FindAllSols (map word_of words)
-  pub print_sols : o.print_sols ≡ not (asks_for NoPrintSols (map word_of words))
-  pub redump : o.redump ≡ asks_for Redump (map word_of words)
+  pub find_all : o.find_all ≡ asks_for FindAllSols (words_of words)
+  pub sol_limit : o.sol_limit ≡ limit_of SolLimit (words_of words)
+  pub node_limit : o.node_limit ≡ limit_of NodeLimit (words_of words)
+  pub choice : o.choice ≡ choice_of (words_of words)
+  pub print_sols : o.print_sols ≡ not (asks_for NoPrintSols (words_of words))
+  pub redump : o.redump ≡ asks_for Redump (words_of words)

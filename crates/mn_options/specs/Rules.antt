@@ -1,34 +1,23 @@
 -- Which rule the words of the command line break first.
-use Rattle.std.specs.Prelude.{ℕ, Bool, true, false, if◌then◌else◌, List, [], ◌∷◌, ◌++◌, length, map, Option, Some, None}
+use Rattle.std.specs.Prelude.{ℕ, Bool, true, false, if◌then◌else◌, List, [], ◌∷◌, ◌++◌, length, Option, Some, None}
 use Rattle.std.specs.List.{list_any}
 use Rattle.std.specs.Option.{option_or}
-use Rattle.mn_options.specs.Words.{word_of}
+use Rattle.mn_options.specs.Words.{same_option, words_of}
 use Rattle.mn_options.specs.declared.table.CommandOption.{CommandOption}
-use Rattle.mn_options.specs.declared.table.CommandOption.TheVariants.{FindAllSols, NoPrintSols, NoResume, Redump}
 use Rattle.mn_options.specs.declared.usage.Usage.{Usage}
-use Rattle.mn_options.specs.declared.usage.Usage.TheVariants.{Unknown, Twice, NoModel, SecondModel}
+use Rattle.mn_options.specs.declared.usage.Usage.TheVariants.{Unknown, MissingValue, BadNumber, Twice, NoModel, SecondModel}
 use Rattle.mn_options.specs.declared.words.Word.{Word}
-use Rattle.mn_options.specs.declared.words.Word.TheVariants.{Listed, Unlisted, Model}
-
--- the two are one option
-abbrev pub same_option : CommandOption → CommandOption → Bool
-same_option FindAllSols FindAllSols = true
-same_option NoPrintSols NoPrintSols = true
-same_option NoResume NoResume = true
-same_option Redump Redump = true
-same_option _ _ = false
+use Rattle.mn_options.specs.declared.words.Word.TheVariants.{Listed, Bare, Limit, Order, Unlisted, Model}
 
 -- the word is this option
 abbrev pub is_option : CommandOption → Word → Bool
 is_option option (Listed other) = same_option option other
-is_option option Unlisted = false
-is_option option Model = false
+is_option option _ = false
 
 -- the word names a model
 abbrev pub is_model : Word → Bool
-is_model (Listed option) = false
-is_model Unlisted = false
 is_model Model = true
+is_model _ = false
 
 -- one of the words is this option
 abbrev pub asks_for : CommandOption → List Word → Bool
@@ -41,7 +30,12 @@ names_model words = list_any is_model words
 -- the rule that a word breaks after those before it
 abbrev pub broken_by : List Word → Word → Option Usage
 broken_by before Unlisted = Some (Unknown (length before))
+broken_by before (Bare option) = Some (MissingValue (length before))
 broken_by before (Listed option) = if asks_for option before then Some (Twice (length before)) else None
+broken_by before (Limit option None) = Some (BadNumber (length before))
+broken_by before (Limit option (Some limit)) = None
+broken_by before (Order None) = Some (Unknown (length before))
+broken_by before (Order (Some choice)) = None
 broken_by before Model = if names_model before then Some (SecondModel (length before)) else None
 
 -- the rule that words break first after others: the first word that breaks one decides, and only where none does, that a model is named
@@ -51,4 +45,4 @@ first_broken_behind before (word ∷ words) = option_or (broken_by before word) 
 
 -- the rule that all words of the command line break first, if they break one
 abbrev pub first_broken : List (List ℕ) → Option Usage
-first_broken words = first_broken_behind [] (map word_of words)
+first_broken words = first_broken_behind [] (words_of words)

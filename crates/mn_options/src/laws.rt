@@ -1,14 +1,15 @@
 //! Laws of the definitions. The functions do nothing.
-ghost use Rattle.mn_options.specs.Laws.{LawfulBreakNoRule, LinesAreDistinct, LinesAreFound};
+ghost use Rattle.mn_options.specs.Laws.{LawfulBreakNoRule, OptionsAreDistinct, OptionsAreFound, OrdersAreDistinct, OrdersAreFound};
 
-/// No word stands twice in the table, and each of its words is the option that stands after it.
-pub fn table_is_unambiguous()
-    ensures distinct { LinesAreDistinct }
-    ensures found { LinesAreFound }
+/// No word stands twice in a table, and each word of a table stands for what is on its line.
+pub fn tables_are_unambiguous()
+    ensures options_distinct { OptionsAreDistinct }
+    ensures options_found { OptionsAreFound }
+    ensures orders_distinct { OrdersAreDistinct }
+    ensures orders_found { OrdersAreFound }
 {}
 
-/// The words that break no rule are those of which each that begins with `-` is in the table, with no option twice and
-/// with one model.
+/// The words that break no rule are those of which each fits, with no option and no model twice and with one model.
 pub fn lawful_words_break_no_rule()
     ensures { LawfulBreakNoRule }
 {}

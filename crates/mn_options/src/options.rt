@@ -1,14 +1,17 @@
 //! What the words ask for together, or the rule that they break first.
 ghost use Rattle.std.specs.Prelude.{◌≡◌, ◌⊎◌, map, option_map, chars, encode_utf8_all, string_bytes, None, Some, IsOk, IsErrOf, IsSome, IfOk, IfErr, IfSome, IsNone};
+ghost use Rattle.mn_options.specs.Limits.{IsLimit};
 ghost use Rattle.mn_options.specs.Meant.{AreOptions, model_name};
 ghost use Rattle.mn_options.specs.Rules.{first_broken};
-ghost use Rattle.mn_options.specs.Words.{word_of};
+ghost use Rattle.mn_options.specs.Words.{words_of};
 
 use crate::rules::{asks_for, first_broken};
 use crate::table::CommandOption;
+use crate::told::{choice_of, limit_of, named_by};
 use crate::usage::Usage;
-use crate::words::{Word, word_of};
+use crate::words::{Word, words_of};
 use mn_model::Text;
+use mn_order::Choice;
 use std::alloc::{AllocError, Global};
 
 /// What lawful words ask for.
@@ -18,31 +21,16 @@ pub struct Options {
     pub model: Option<Text>,
     /// Whether all solutions are asked for, however many there are.
     pub find_all: bool,
+    /// At which solution the search ends.
+    pub sol_limit: Option<u64>,
+    /// After how many visits the search ends.
+    pub node_limit: Option<u64>,
+    /// How the search chooses a variable.
+    pub choice: Choice,
     /// Whether the solutions are printed.
     pub print_sols: bool,
     /// Whether the model's text is asked for in place of its solutions.
     pub redump: bool,
-}
-
-fn words_of(alloc: Global, words: &[String]) -> Result<Vec<Word>, AllocError>
-    ensures { IfOk result (λ found. found.items ≡ map word_of (map string_bytes words.now)) }
-{
-    let mut found = Vec::new(alloc);
-    for word in words {
-        found.push(word_of(word.as_str()))?;
-    }
-    Ok(found)
-}
-
-fn model_name(words: &[String]) -> Option<&str>
-    ensures { option_map (λ name. name.now) result ≡ model_name (map string_bytes words.now) }
-{
-    for word in words {
-        if word_of(word.as_str()) == Word::Model {
-            return Some(word.as_str());
-        }
-    }
-    None
 }
 
 fn text_of(alloc: Global, word: &str) -> Result<Text, AllocError>
@@ -56,11 +44,12 @@ fn text_of(alloc: Global, word: &str) -> Result<Text, AllocError>
     Ok(text)
 }
 
-fn model_text(alloc: Global, words: &[String]) -> Result<Option<Text>, AllocError>
+fn model_text(alloc: Global, found: &[Word], words: &[String]) -> Result<Option<Text>, AllocError>
+    requires { found.now ≡ words_of (map string_bytes words.now) }
     ensures chars { IfOk result (λ model. model ≡ option_map chars (model_name (map string_bytes words.now))) }
     ensures bytes { IfOk result (λ model. option_map encode_utf8_all model ≡ model_name (map string_bytes words.now)) }
 {
-    match model_name(words) {
+    match named_by(found, words) {
         Some(name) => Ok(Some(text_of(alloc, name)?)),
         None => Ok(None),
     }
@@ -73,6 +62,10 @@ pub fn parse(alloc: Global, words: &Vec<String>) -> Result<Options, Usage>
     // A model is always named, and its characters are written by the bytes of its word.
     ensures named { IfOk result (λ options. IsSome options.model) }
     ensures name { IfOk result (λ options. option_map encode_utf8_all options.model ≡ model_name (map string_bytes words.now.items)) }
+
+    // A limit is never 0, and has 18 digits at most.
+    ensures sol_limit { IfOk result (λ options. IfSome options.sol_limit IsLimit) }
+    ensures node_limit { IfOk result (λ options. IfSome options.node_limit IsLimit) }
 
     // What comes tells of the words.
     ensures kept { IsOk result → first_broken (map string_bytes words.now.items) ≡ None }
@@ -87,8 +80,11 @@ pub fn parse(alloc: Global, words: &Vec<String>) -> Result<Options, Usage>
         return Err(rule);
     }
     Ok(Options {
-        model: model_text(alloc, words)?,
+        model: model_text(alloc, &found, words)?,
         find_all: asks_for(&found, CommandOption::FindAllSols),
+        sol_limit: limit_of(CommandOption::SolLimit, &found),
+        node_limit: limit_of(CommandOption::NodeLimit, &found),
+        choice: choice_of(&found),
         print_sols: !asks_for(&found, CommandOption::NoPrintSols),
         redump: asks_for(&found, CommandOption::Redump),
     })

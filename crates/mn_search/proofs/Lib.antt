@@ -17,3 +17,4 @@ pub mod There
 pub mod Turning
 pub mod Visited
 pub mod Visiting
+pub mod Told

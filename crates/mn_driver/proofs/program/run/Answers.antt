@@ -1,11 +1,17 @@
 use Rattle.std.proofs.Common.{map, string_bytes}
 use Rattle.mn_driver.specs.Outputs.{input_of, output_of}
-use Rattle.mn_driver.specs.declared.status.Status.TheVariants.{Complete, Printed, Refused, Usage, ReadFault, WriteFault, DumpTooLong, NoMemory}
+use Rattle.mn_driver.specs.declared.status.Status.TheVariants.{Complete, AtSolutionLimit, AtNodeLimit, Printed, Refused, Usage, ReadFault, WriteFault, DumpTooLong, NoMemory}
 use Rattle.mn_driver.proofs.Clauses as clauses
 use Rattle.mn_driver.proofs.program.run.Goals as goal
 
 pub returns-clause-complete : goal.returns-clause-complete
 returns-clause-complete g c = clauses.of_status (input_of g.F.Files.content g.F.Files.reading c.args.files.now c.finished.new.files) (map string_bytes c.args.words.now.items) (output_of g.O.Sink.content g.O.Sink.faults c.args.out.now c.finished.new.out) c.finished.result.status c.finished.result.counts c.finished.ensures.ends Complete
+
+pub returns-clause-at_solution_limit : goal.returns-clause-at_solution_limit
+returns-clause-at_solution_limit g c = clauses.of_status (input_of g.F.Files.content g.F.Files.reading c.args.files.now c.finished.new.files) (map string_bytes c.args.words.now.items) (output_of g.O.Sink.content g.O.Sink.faults c.args.out.now c.finished.new.out) c.finished.result.status c.finished.result.counts c.finished.ensures.ends AtSolutionLimit
+
+pub returns-clause-at_node_limit : goal.returns-clause-at_node_limit
+returns-clause-at_node_limit g c = clauses.of_status (input_of g.F.Files.content g.F.Files.reading c.args.files.now c.finished.new.files) (map string_bytes c.args.words.now.items) (output_of g.O.Sink.content g.O.Sink.faults c.args.out.now c.finished.new.out) c.finished.result.status c.finished.result.counts c.finished.ensures.ends AtNodeLimit
 
 pub returns-clause-dumped : goal.returns-clause-dumped
 returns-clause-dumped g c = clauses.of_status (input_of g.F.Files.content g.F.Files.reading c.args.files.now c.finished.new.files) (map string_bytes c.args.words.now.items) (output_of g.O.Sink.content g.O.Sink.faults c.args.out.now c.finished.new.out) c.finished.result.status c.finished.result.counts c.finished.ensures.ends Printed
