@@ -5,7 +5,7 @@ use Rattle.std.proofs.lemmas.Option.{slice_get_within}
 use Rattle.mn_model.specs.declared.constraint.Con.TheVariants as con
 use Rattle.mn_model.specs.declared.constraint.Term.{Term}
 use Rattle.mn_model.specs.declared.declaration.Tuples.{Tuples}
-use Rattle.mn_model.specs.Parts.{places}
+use Rattle.mn_model.specs.declared.limits.TheConstants.{PLACES}
 use Rattle.mn_boxes.specs.Boxes.{Inside, IsBox}
 use Rattle.mn_boxes.specs.Places.{PlaceHas}
 use Rattle.mn_boxes.specs.Sets.{Variable}
@@ -112,6 +112,11 @@ module _ (lists : List Tuples) (v : List Term) (k : ℤ) where
 
   pub entry_named : (amount : Amount) (vars : List Variable) (i : ℕ) (t : Term) → IsReady vars lists (con_of v k amount) → slice_get v i ≡ Some t → IsNamed vars t
   entry_named amount vars i t ready stands = ready_named (beside lists (con_of v k amount)) i ready (entry_stands amount i t stands)
+
+  pub few_entries : (amount : Amount) (vars : List Variable) → IsReady vars lists (con_of v k amount) → length v ≤ PLACES + 1
+  few_entries (AtMost most) vars ready = ready.meant.short.0
+  few_entries (AtLeast least) vars ready = ready.meant.short.0
+  few_entries (Is x) vars ready = ready.meant.short.0
 
   pub counter_named : (x : Term) (vars : List Variable) → IsReady vars lists (con_of v k (Is x)) → IsNamed vars x
   counter_named x vars ready = ready_named (beside lists (con_of v k (Is x))) (length v) ready (counter_stands x)

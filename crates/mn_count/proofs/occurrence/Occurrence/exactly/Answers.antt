@@ -32,7 +32,7 @@ returns-in_err-set_hi c =
     let begun = nothing_cut s.inst.now.tuples s.v.now s.k s.amount c.args.x c.requires.amount c.args.c.now c.requires.ready c.args.tally.must c.args.tally.may c.requires.tally in
     let low = rw (to_z-of_z w64 c.args.tally.must must) at c.in_ok-set_lo.ensures in
     let first = cuts_low s.inst.now.tuples s.v.now s.k s.amount c.args.x c.requires.amount c.args.c.now c.requires.ready c.args.tally.must c.args.tally.may c.requires.tally begun low in
-    high_fails s.inst.now.tuples s.v.now s.k s.amount c.args.x c.requires.amount c.args.c.now c.requires.ready c.args.tally.must c.args.tally.may c.requires.tally first (rw (to_z-of_z w64 c.args.tally.may may) at c.in_err-set_hi.ensures) c.from_residual.ensures.0
+    high_fails s.inst.now.tuples s.v.now s.k s.amount c.args.x c.requires.amount c.args.c.now c.requires.ready c.args.tally.must c.args.tally.may c.requires.tally first (rw (to_z-of_z w64 c.args.tally.may may) at c.in_err-set_hi.ensures) c.from_residual-in_err-set_hi.ensures.0
 
 pub hi-requires : goal.hi-requires
 hi-requires c =

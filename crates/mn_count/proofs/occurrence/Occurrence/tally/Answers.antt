@@ -1,7 +1,7 @@
 use Rattle.std.proofs.Common.{◌≡◌, pos, ◌+ℤ◌, FitsSigned, to_z, of_z, rules, sym, ◌∙◌, true≢false, w64, arith}
 use Rattle.std.proofs.lemmas.Int.{ints, to_z-of_z}
 use Rattle.mn_prop.specs.Contexts.{box_of, vars_of}
-use Rattle.mn_count.proofs.Amounts.{entry_named}
+use Rattle.mn_count.proofs.Amounts.{entry_named, few_entries}
 use Rattle.mn_count.proofs.Tallies.{all_tallied, alone_tallied, open_tallied, other_tallied}
 use Rattle.mn_count.proofs.occurrence.Occurrence.tally.Goals as goal
 use Rattle.mn_count.proofs.occurrence.Occurrence.tally.Goals.{then-is_single, else-is_single}
@@ -29,13 +29,20 @@ loop-i-preserved c =
     let few_high = c.loop-i.invariant.few_high in
     let must_is = c.loop-i.invariant.must_is in
     let may_is = c.loop-i.invariant.may_is in
+    let few = few_entries s.inst.now.tuples s.v.now s.k s.amount (vars_of c.args.c.now) c.requires in
+    let within = c.loop-i-test.true in
+    let long = c.len-i-end.ensures in
+    let must_fits : FitsSigned w64 (to_z w64 c.loop-i.must-bits +ℤ pos 1) = omega (arith, ints, few_low, must_is, few, within, long) in
+    let may_fits : FitsSigned w64 (to_z w64 c.loop-i.may-bits +ℤ pos 1) = omega (arith, ints, few_high, may_is, few, within, long) in
+    let must_next = to_z-of_z w64 (to_z w64 c.loop-i.must-bits +ℤ pos 1) must_fits in
+    let may_next = to_z-of_z w64 (to_z w64 c.loop-i.may-bits +ℤ pos 1) may_fits in
     elim c.if-is_single.branch [
       | then-is_single w ↦
-          alone_tallied (box_of c.args.c.now) s.k s.v.now c.loop-i.i c.get-t.result.now _ (to_z w64 c.loop-i.must-bits) (to_z w64 c.loop-i.may-bits) _ _ c.get-t.ensures (has.0 c.if-not-has.false) (c.is_single.ensures.alone.0 w.if-is_single)
-          (omega (arith, ints, few_low, must_is)) (omega (arith, ints, few_high, may_is)) c.loop-i.invariant
+          alone_tallied (box_of c.args.c.now) s.k s.v.now c.loop-i.i c.get-t.result.now _ (to_z w64 c.loop-i.must-bits) (to_z w64 c.loop-i.may-bits) _ _ c.get-t.ensures (has.0 c.if-not-has.false) (c.is_single.ensures.alone.0 w.if-is_single.true)
+          (omega (arith, ints, must_next)) may_next c.loop-i.invariant
       | else-is_single w ↦
-          open_tallied (box_of c.args.c.now) s.k s.v.now c.loop-i.i c.get-t.result.now (to_z w64 c.loop-i.must-bits) (to_z w64 c.loop-i.may-bits) _ _ c.get-t.ensures (has.0 c.if-not-has.false) (c.is_single.ensures.two w.if-is_single)
-          (omega (arith, ints, few_low, must_is)) (omega (arith, ints, few_high, may_is)) c.loop-i.invariant
+          open_tallied (box_of c.args.c.now) s.k s.v.now c.loop-i.i c.get-t.result.now (to_z w64 c.loop-i.must-bits) (to_z w64 c.loop-i.may-bits) _ _ c.get-t.ensures (has.0 c.if-not-has.false) (c.is_single.ensures.two w.if-is_single.false)
+          (omega (arith, ints, must_next)) may_next c.loop-i.invariant
     ]
 
 pub returns : goal.returns
