@@ -1,5 +1,5 @@
 -- Values that are chosen one from each of several places: with another value at one place, and with a place behind them.
-use Rattle.std.proofs.Common.{◌≡◌, ℕ, zero, suc, ◌+◌, ◌<◌, ◌≤◌, ℤ, pos, List, [], ◌∷◌, ◌++◌, length, take, drop, slice_get, slice_set, slice_index_or, ◌⊎◌, inl, inr, Some, refl, sym, subst, ap, ◌∙◌, arith}
+use Rattle.std.proofs.Common.{◌≡◌, ℕ, zero, suc, ◌+◌, ◌<◌, ◌≤◌, ℤ, List, [], ◌∷◌, ◌++◌, length, take, drop, slice_get, slice_set, ◌⊎◌, inl, inr, Some, refl, sym, subst, ap, ◌∙◌, arith}
 use Rattle.std.specs.List.{AllZip}
 use Rattle.mn_model.specs.declared.constraint.Term.{Term}
 use Rattle.mn_boxes.specs.Boxes.{Inside}

@@ -1,5 +1,5 @@
 -- When a box is closed under a constraint that a value stands so often, and steps towards it.
-use Rattle.std.proofs.Common.{◌≡◌, ◌≢◌, ℕ, zero, suc, ◌+◌, ◌<◌, ◌≤◌, ℤ, pos, negsuc, ◌≤ℤ◌, ◌<ℤ◌, ◌⊎◌, inl, inr, Bool, int_le, OnOk, List, [], ◌∷◌, length, slice_get, Some, Result, Ok, Err, IsErr, refl, sym, subst, ap, ◌∙◌, arith}
+use Rattle.std.proofs.Common.{◌≡◌, ◌≢◌, ℕ, zero, suc, ◌+◌, ◌≤◌, ℤ, pos, negsuc, ◌≤ℤ◌, ◌<ℤ◌, ◌⊎◌, inl, inr, Bool, int_le, OnOk, List, [], ◌∷◌, length, slice_get, Some, Result, Ok, Err, IsErr, refl, sym, subst, ap, ◌∙◌, arith}
 use Rattle.std.proofs.lemmas.Int.{ints}
 use Rattle.std.proofs.lemmas.Option.{slice_get_within}
 use Rattle.mn_model.specs.Decided.{Decided, decide_int}
@@ -10,11 +10,11 @@ use Rattle.mn_boxes.specs.Boxes.{Inside, IsBox}
 use Rattle.mn_boxes.specs.Places.{PlaceHas}
 use Rattle.mn_boxes.specs.Sets.{Variable}
 use Rattle.mn_meaning.specs.Families.{occurrences}
-use Rattle.mn_closure.specs.Closed.{Asked, IsAlone, LeafClosed}
+use Rattle.mn_closure.specs.Closed.{Asked, LeafClosed}
 use Rattle.mn_closure.specs.Levels.{Arc}
-use Rattle.mn_closure.specs.Supports.{Choice, StandsAt, Supported}
+use Rattle.mn_closure.specs.Supports.{Choice, StandsAt}
 use Rattle.mn_closure.proofs.Wider.{wider_place}
-use Rattle.mn_prop.specs.Contexts.{ChangedAt, Context, IsChange, IsGreatestAt, IsLeastAt, IsNamed, NonePasses, box_of, vars_of}
+use Rattle.mn_prop.specs.Contexts.{Context, IsChange, IsGreatestAt, IsLeastAt, IsNamed, NonePasses, box_of, vars_of}
 use Rattle.mn_prop.specs.Losses.{LessAt, MoreAt, Unsupported, nothing_goes}
 use Rattle.mn_prop.specs.Passes.{AtLeastAt, AtMostAt, IsStep, Narrows}
 use Rattle.mn_prop.specs.Posts.{IsReady, beside}

@@ -1,7 +1,6 @@
 -- How often a value stands whatever is chosen, and how often it can.
-use Rattle.std.proofs.Common.{◌≡◌, ◌≢◌, ◌↔◌, ℕ, suc, ◌+◌, ◌<◌, ◌≤◌, ℤ, pos, ◌+ℤ◌, ◌≤ℤ◌, ◌⊎◌, inl, inr, List, [], ◌∷◌, drop, length, slice_get, slice_set, Some, refl, sym, subst, ap, ◌∙◌, arith}
+use Rattle.std.proofs.Common.{◌≡◌, ◌≢◌, ℕ, ◌+◌, ◌<◌, ◌≤◌, ℤ, pos, ◌+ℤ◌, ◌⊎◌, inl, inr, List, [], ◌∷◌, drop, length, slice_get, slice_set, Some, refl, sym, subst, ap, ◌∙◌, arith}
 use Rattle.std.proofs.lemmas.Int.{ints}
-use Rattle.std.proofs.lemmas.Option.{slice_get_within}
 use Rattle.mn_model.specs.Decided.{Decided, decide_int}
 use Rattle.mn_model.specs.declared.constraint.Term.{Term}
 use Rattle.mn_boxes.specs.Boxes.{IsBox}
@@ -14,7 +13,7 @@ use Rattle.mn_closure.specs.Supports.{Choice, IsOpen}
 use Rattle.mn_prop.specs.Contexts.{IsNamed}
 use Rattle.mn_prop.proofs.Boxing.{some_value}
 use Rattle.mn_count.specs.Occurrences.{AllKept, IsFewest, IsMost, IsTally}
-use Rattle.mn_count.proofs.Counting.{between, one_at_most, one_if, one_other, one_same, set_count}
+use Rattle.mn_count.proofs.Counting.{between, one_at_most, one_other, one_same, set_count}
 use Rattle.mn_count.proofs.Entries.{at_there, chosen_there, chosen_with, left_next, none_left}
 
 -- the place has another value than k
@@ -181,7 +180,7 @@ module _ (box : List (List ℤ)) (k : ℤ) where
     reached_with : (i : ℕ) (t : Term) (a : ℤ) (l : ℕ) → slice_get v i ≡ Some t → PlaceHas box t a → occurrences k (slice_set f.values i a) ≤ l → l ≤ occurrences k (slice_set g.values i a) → IsReachedWith i a l
     reached_with i t a l stands has from to =
         let some =
-            between (PlaceHas box) k v (slice_set f.values i a) (slice_set g.values i a) l (chosen_with (PlaceHas box) v f.values i t a f.chosen stands has) (chosen_with (PlaceHas box) v g.values i t a g.chosen stands has) from to in
+        between (PlaceHas box) k v (slice_set f.values i a) (slice_set g.values i a) l (chosen_with (PlaceHas box) v f.values i t a f.chosen stands has) (chosen_with (PlaceHas box) v g.values i t a g.chosen stands has) from to in
         record {
           values = some.values;
           chosen = some.chosen;

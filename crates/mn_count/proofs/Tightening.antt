@@ -1,5 +1,5 @@
 -- A value that is taken out of all entries that have others, and one that is kept alone wherever it is.
-use Rattle.std.proofs.Common.{◌≡◌, ◌≢◌, ◌↔◌, ℕ, ◌+◌, ◌<◌, ◌≤◌, ℤ, pos, ◌⊎◌, inl, inr, Bool, true, false, IsTrue, OnOk, List, length, slice_get, slice_set, Some, Result, Ok, Err, IsErr, refl, sym, subst, ap, ◌∙◌, arith, true≢false}
+use Rattle.std.proofs.Common.{◌≡◌, ◌≢◌, ℕ, ◌+◌, ◌≤◌, ℤ, inl, inr, false, OnOk, List, length, slice_get, slice_set, Some, Result, Ok, Err, IsErr, refl, sym, subst, ap, ◌∙◌, arith, true≢false}
 use Rattle.std.proofs.lemmas.Int.{ints}
 use Rattle.std.specs.Ordering.{int_eq}
 use borrow.Author.Count.{below_more}
@@ -8,29 +8,28 @@ use Rattle.mn_model.specs.declared.constraint.Term.{Term}
 use Rattle.mn_model.specs.declared.declaration.Tuples.{Tuples}
 use Rattle.mn_boxes.specs.Boxes.{Inside, IsBox}
 use Rattle.mn_boxes.specs.Places.{PlaceHas}
-use Rattle.mn_boxes.specs.Sets.{Variable}
 use Rattle.mn_domains.proofs.Filtered.{eq_so, eq_true}
 use Rattle.mn_meaning.specs.Families.{occurrences}
 use Rattle.mn_meaning.specs.Meaning.{at}
 use Rattle.mn_closure.specs.Closed.{Asked, IsAlone, LeafClosed}
 use Rattle.mn_closure.specs.Levels.{Arc}
-use Rattle.mn_closure.specs.Supports.{Choice, IsOpen, Supported}
+use Rattle.mn_closure.specs.Supports.{Choice, IsOpen}
 use Rattle.mn_closure.proofs.Wider.{wider_place}
 use Rattle.mn_prop.specs.Contexts.{ChangedAt, Context, IsChange, IsNamed, NonePasses, box_of, vars_of}
 use Rattle.mn_prop.specs.Losses.{Unsupported}
 use Rattle.mn_prop.specs.Passes.{AllPass, IsStep, Narrows}
-use Rattle.mn_prop.specs.Posts.{IsReady, beside}
+use Rattle.mn_prop.specs.Posts.{beside}
 use Rattle.mn_prop.specs.declared.context.Fail.{Fail}
-use Rattle.mn_prop.proofs.Boxing.{inside_itself, inside_through}
+use Rattle.mn_prop.proofs.Boxing.{inside_through}
 use Rattle.mn_prop.proofs.Ended.{greatest_of, least_of}
 use Rattle.mn_prop.proofs.Going.{goes_on, goes_wrong, same_before}
 use Rattle.mn_prop.proofs.Narrowing.{narrows_as}
 use Rattle.mn_prop.proofs.Stepping.{Property, Rules, by_rule, change_step, goes_inside, same_vars}
 use Rattle.mn_count.specs.declared.occurrence.Amount.{Amount}
-use Rattle.mn_count.specs.Occurrences.{AllDropped, AllKept, IsAllowed, IsDropped, IsFull, IsKept, IsShort, con_of}
+use Rattle.mn_count.specs.Occurrences.{AllDropped, AllKept, IsDropped, IsFull, IsKept, IsShort, con_of}
 use Rattle.mn_count.specs.Singles.{EachAsked, ThatAt}
-use Rattle.mn_count.proofs.Amounts.{IsCounted, allowed_inside, closed_entry, entry_named, entry_stands, supported_counted}
-use Rattle.mn_count.proofs.Counting.{one_if, one_other, one_same, set_count}
+use Rattle.mn_count.proofs.Amounts.{IsCounted, allowed_inside, closed_entry, entry_stands, supported_counted}
+use Rattle.mn_count.proofs.Counting.{one_other, one_same, set_count}
 use Rattle.mn_count.proofs.Entries.{chosen_with, choice_inside, same_entry}
 use Rattle.mn_count.proofs.Tallies.{HasOther, open_other}
 use Rattle.mn_count.proofs.Turning.{TurnsTo, no_turn}

@@ -1,5 +1,5 @@
 -- How often a value stands at places, by what is chosen of them.
-use Rattle.std.specs.Prelude.{◌≡◌, ◌≢◌, ℕ, ◌<◌, ◌≤◌, ℤ, pos, ◌≤ℤ◌, List, length, slice_get, Some}
+use Rattle.std.specs.Prelude.{◌≡◌, ℕ, ◌<◌, ◌≤◌, ℤ, pos, ◌≤ℤ◌, List, length, slice_get, Some}
 use Rattle.mn_model.specs.declared.constraint.Con.{Con}
 use Rattle.mn_model.specs.declared.constraint.Con.TheVariants as con
 use Rattle.mn_model.specs.declared.constraint.Term.{Term}

@@ -32,9 +32,24 @@ impl<'a> Count<'a> {
     {
         match con {
             Con::Alldiff(v) => Ok(Count::Differ(Alldiff { v, inst })),
-            Con::Occurrence(v, k, x) => Ok(Count::Often(Occurrence::new(inst, v, *k, Amount::Is(*x)))),
-            Con::Occurrenceleq(v, k, most) => Ok(Count::Often(Occurrence::new(inst, v, *k, Amount::AtMost(*most)))),
-            Con::Occurrencegeq(v, k, least) => Ok(Count::Often(Occurrence::new(inst, v, *k, Amount::AtLeast(*least)))),
+            Con::Occurrence(v, k, x) => Ok(Count::Often(Occurrence::new(
+                inst,
+                v,
+                *k,
+                Amount::Is(*x),
+            ))),
+            Con::Occurrenceleq(v, k, most) => Ok(Count::Often(Occurrence::new(
+                inst,
+                v,
+                *k,
+                Amount::AtMost(*most),
+            ))),
+            Con::Occurrencegeq(v, k, least) => Ok(Count::Often(Occurrence::new(
+                inst,
+                v,
+                *k,
+                Amount::AtLeast(*least),
+            ))),
             Con::Nvalueleq(_, _) => Ok(Count::Few(ForwardCheck::build(alloc, inst, con)?)),
             _ => unreachable!(),
         }

@@ -83,6 +83,7 @@ impl<'a> Occurrence<'a> {
         Tally { must, may }
     }
 
+    // Where it must stand as often as it may, it goes from all other entries.
     fn at_most(&self, c: &mut Ctx, tally: Tally, most: i64) -> Result<(), Fail>
         requires ready { IsReadyToRun (vars_of c.old) (occurrence_of self.now) }
         requires amount { self.now.amount ≡ AtMost most }
@@ -99,6 +100,7 @@ impl<'a> Occurrence<'a> {
         self.drop_all(c)
     }
 
+    // Where it can stand only as often as it has to, it stays at all entries that have it.
     fn at_least(&self, c: &mut Ctx, tally: Tally, least: i64) -> Result<(), Fail>
         requires ready { IsReadyToRun (vars_of c.old) (occurrence_of self.now) }
         requires amount { self.now.amount ≡ AtLeast least }
@@ -115,7 +117,7 @@ impl<'a> Occurrence<'a> {
         self.keep_all(c)
     }
 
-    // The number is that of a place, which may be an entry too.
+    // The number is that of a place, which may be an entry too: so the sets may have fewer values than were counted.
     fn exactly(&self, c: &mut Ctx, tally: Tally, x: Term) -> Result<(), Fail>
         requires ready { IsReadyToRun (vars_of c.old) (occurrence_of self.now) }
         requires amount { self.now.amount ≡ Is x }
@@ -188,7 +190,11 @@ impl Scoped for Occurrence<'_> {
 
     fn term(&self, i: usize) -> Term {
         match self.amount {
-            Amount::Is(x) => if i < self.v.as_slice().len() { *self.v.get(i) } else { x },
+            Amount::Is(x) => if i < self.v.as_slice().len() {
+                *self.v.get(i)
+            } else {
+                x
+            },
             Amount::AtMost(_) | Amount::AtLeast(_) => *self.v.get(i),
         }
     }

@@ -1,4 +1,4 @@
-use Rattle.std.proofs.Common.{◌≡◌, arith}
+use Rattle.std.proofs.Common.{arith}
 use Rattle.std.proofs.lemmas.Int.{ints}
 use Rattle.mn_count.proofs.Occurring.{least_fails, least_free, least_kept, least_short}
 use Rattle.mn_count.proofs.occurrence.Occurrence.at_least.Goals as goal

@@ -1,4 +1,4 @@
-use Rattle.std.proofs.Common.{◌≡◌, arith}
+use Rattle.std.proofs.Common.{arith}
 use Rattle.std.proofs.lemmas.Int.{ints}
 use Rattle.mn_count.proofs.Occurring.{most_dropped, most_fails, most_free, most_full}
 use Rattle.mn_count.proofs.occurrence.Occurrence.at_most.Goals as goal

@@ -1,4 +1,4 @@
-use Rattle.std.proofs.Common.{◌≡◌, ◌≢◌, FitsSigned, rules, w64, arith}
+use Rattle.std.proofs.Common.{◌≢◌, FitsSigned, rules, w64, arith}
 use Rattle.std.proofs.lemmas.Int.{ints, to_z-of_z}
 use Rattle.mn_count.proofs.Occurring.{both_cut, cuts_high, cuts_low, high_fails, low_fails, named_now, nothing_cut, now_full, now_short, number_named, ready_now, then_dropped, then_free, then_kept}
 use Rattle.mn_count.proofs.occurrence.Occurrence.exactly.Goals as goal

@@ -1,4 +1,4 @@
-use Rattle.std.proofs.Common.{◌≡◌, pos, ◌+ℤ◌, FitsSigned, to_z, of_z, rules, sym, ◌∙◌, true≢false, w64, arith}
+use Rattle.std.proofs.Common.{pos, ◌+ℤ◌, FitsSigned, to_z, rules, sym, ◌∙◌, true≢false, w64, arith}
 use Rattle.std.proofs.lemmas.Int.{ints, to_z-of_z}
 use Rattle.mn_prop.specs.Contexts.{box_of, vars_of}
 use Rattle.mn_count.proofs.Amounts.{entry_named, few_entries}
