@@ -1,3 +1,9 @@
+pub mod Amounts
 pub mod Changed
+pub mod Counting
+pub mod Entries
+pub mod Occurring
 pub mod Spread
+pub mod Tallies
+pub mod Tightening
 pub mod Turning

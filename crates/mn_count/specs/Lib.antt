@@ -1,2 +1,3 @@
 pub mod Counts
+pub mod Occurrences
 pub mod Singles

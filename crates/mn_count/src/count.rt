@@ -8,6 +8,7 @@ ghost use Rattle.mn_prop.specs.Posts.{ClosedUnderLeaf, IsReadyToRun, beside};
 ghost use Rattle.mn_count.specs.Counts.{IsCounting, posted_of, rests_of};
 
 use crate::alldiff::Alldiff;
+use crate::occurrence::{Amount, Occurrence};
 use mn_model::{Con, Instance, Term};
 use mn_prop::{Ctx, Fail, ForwardCheck, Runner, Scoped};
 use std::alloc::{AllocError, Global};
@@ -17,6 +18,8 @@ use std::alloc::{AllocError, Global};
 pub enum Count<'a> {
     /// Places that all differ.
     Differ(Alldiff<'a>),
+    /// So many entries that are a value.
+    Often(Occurrence<'a>),
     /// At most so many different values.
     Few(ForwardCheck<'a>),
 }
@@ -29,6 +32,24 @@ impl<'a> Count<'a> {
     {
         match con {
             Con::Alldiff(v) => Ok(Count::Differ(Alldiff { v, inst })),
+            Con::Occurrence(v, k, x) => Ok(Count::Often(Occurrence::new(
+                inst,
+                v,
+                *k,
+                Amount::Is(*x),
+            ))),
+            Con::Occurrenceleq(v, k, most) => Ok(Count::Often(Occurrence::new(
+                inst,
+                v,
+                *k,
+                Amount::AtMost(*most),
+            ))),
+            Con::Occurrencegeq(v, k, least) => Ok(Count::Often(Occurrence::new(
+                inst,
+                v,
+                *k,
+                Amount::AtLeast(*least),
+            ))),
             Con::Nvalueleq(_, _) => Ok(Count::Few(ForwardCheck::build(alloc, inst, con)?)),
             _ => unreachable!(),
         }
@@ -42,6 +63,7 @@ impl<'a> Count<'a> {
     {
         match self {
             Count::Differ(d) => d.filter(c),
+            Count::Often(o) => o.filter(c),
             Count::Few(f) => f.filter(c),
         }
     }
@@ -55,6 +77,7 @@ impl Scoped for Count<'_> {
     fn places(&self) -> usize {
         match self {
             Count::Differ(d) => d.places(),
+            Count::Often(o) => o.places(),
             Count::Few(f) => f.places(),
         }
     }
@@ -62,6 +85,7 @@ impl Scoped for Count<'_> {
     fn term(&self, i: usize) -> Term {
         match self {
             Count::Differ(d) => d.term(i),
+            Count::Often(o) => o.term(i),
             Count::Few(f) => f.term(i),
         }
     }
@@ -72,7 +96,7 @@ impl Runner for Count<'_> {
 
     fn settles(&self) -> bool {
         match self {
-            Count::Differ(_) | Count::Few(_) => false,
+            Count::Differ(_) | Count::Often(_) | Count::Few(_) => false,
         }
     }
 

@@ -1,7 +1,10 @@
-//! Propagators of constraints that count equal values: `alldiff` and `nvalueleq`.
+//! Propagators of constraints that count equal values: `alldiff`, `occurrence`, `occurrenceleq`, `occurrencegeq` and
+//! `nvalueleq`.
 //!
 //! A `Count` narrows the places of one such constraint, with the promises of a `Runner`. `alldiff` has level Fixed: a value goes
-//! from a place where another place has it alone. `nvalueleq` is checked forward.
+//! from a place where another place has it alone. The three of occurrences have level
+//! Arc: values go only where the value stands as often as it may, or can stand only as often as it has to. `nvalueleq` is
+//! checked forward.
 //!
 //! The crate stands on `mn_prop`, which says what a propagator owes, and on `mn_closure`, `mn_boxes`, `mn_domains`,
 //! `mn_meaning` and `mn_model`.
@@ -10,7 +13,9 @@
 mod alldiff;
 mod changes;
 mod count;
+mod occurrence;
 
 pub use alldiff::Alldiff;
 pub use count::Count;
+pub use occurrence::{Amount, Occurrence};
 pub use std::alloc::AllocError as NoMemory;
