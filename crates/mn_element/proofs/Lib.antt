@@ -1,0 +1,4 @@
+pub mod Chosen
+pub mod Closing
+pub mod Indexed
+pub mod Looking
