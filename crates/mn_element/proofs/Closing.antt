@@ -27,7 +27,7 @@ use Rattle.mn_prop.proofs.Stepping.{as_step, no_step, same_vars, stop_step, then
 use Rattle.mn_element.specs.Picks.{EntryClosed, IsEntryAt, Picks, PicksAt}
 use Rattle.mn_element.specs.declared.picking.Wanted.TheVariants.{Anything, OfEntry, OfResult}
 use Rattle.mn_element.proofs.Chosen.{InRest, of_either}
-use Rattle.mn_element.proofs.Indexed.{IsIndexed, entry_picks, entry_stands, index_named, index_picks, index_stands, picks_entry, picks_index, picks_result, result_picks, some_entry}
+use Rattle.mn_element.proofs.Supporting.{IsIndexed, entry_picks, entry_stands, index_named, index_picks, index_stands, picks_entry, picks_index, picks_result, result_picks, some_entry}
 
 module _ {c : Con} {v : List Term} {x y : Term} {first : ℤ} (is : IsIndexed c v x y first) where
   -- there are places
@@ -72,7 +72,7 @@ module _ {c : Con} {v : List Term} {x y : Term} {first : ℤ} (is : IsIndexed c 
   closed_place : (vars : List Variable) (lists : List Tuples) (box : List (List ℤ)) (i : ℕ) → LeafClosed vars lists c box → PlaceClosed vars (beside lists c) i box
   closed_place vars lists box i closed = λ t a stands asked. closed.supported i t a stands asked
 
-  closed_entry : (vars : List Variable) (lists : List Tuples) (box : List (List ℤ)) → LeafClosed vars lists c box → EntryClosed vars (beside lists c) first v x box
+  pub closed_entry : (vars : List Variable) (lists : List Tuples) (box : List (List ℤ)) → LeafClosed vars lists c box → EntryClosed vars (beside lists c) first v x box
   closed_entry vars lists box closed = λ k within alone. closed_place vars lists box k closed
 
   -- a box is closed where the index and the result are, and an entry that the index has alone

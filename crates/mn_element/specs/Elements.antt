@@ -5,8 +5,9 @@ use Rattle.mn_model.specs.declared.constraint.Con.TheVariants as con
 use Rattle.mn_model.specs.declared.constraint.Term.{Term}
 use Rattle.mn_prop.specs.Posts.{Posted, beside}
 use Rattle.mn_element.specs.declared.element.Element.{Element}
-use Rattle.mn_element.specs.declared.element.Form.{Form}
-use Rattle.mn_element.specs.declared.element.Form.TheVariants.{FromZero, WatchedFromZero, FromOne, WatchedFromOne}
+use Rattle.mn_element.specs.declared.indexed.Indexed.{Indexed}
+use Rattle.mn_element.specs.declared.indexed.Form.{Form}
+use Rattle.mn_element.specs.declared.indexed.Form.TheVariants.{FromZero, WatchedFromZero, FromOne, WatchedFromOne}
 
 -- a constraint of this crate
 abbrev pub IsOfIndex : Con → Type 0
@@ -30,5 +31,8 @@ first_index WatchedFromZero = pos 0
 first_index FromOne = pos 1
 first_index WatchedFromOne = pos 1
 
+abbrev pub indexed_of : Indexed → Posted
+indexed_of e = beside e.inst.now.tuples (entry_is e.form e.v.now e.x e.y)
+
 abbrev pub element_of : Element → Posted
-element_of e = beside e.inst.now.tuples (entry_is e.form e.v.now e.x e.y)
+element_of e = indexed_of e.of

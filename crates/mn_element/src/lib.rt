@@ -8,7 +8,12 @@
 //! `mn_meaning` and `mn_model`.
 #![tactic(auto)]
 
+mod declared;
 mod element;
+mod gathered;
+mod indexed;
 mod picking;
+mod stretch;
 
-pub use element::{Element, Form};
+pub use element::Element;
+pub use indexed::Form;

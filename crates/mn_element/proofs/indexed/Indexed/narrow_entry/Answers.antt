@@ -2,8 +2,8 @@ use Rattle.std.proofs.Common.{FitsSigned, rules, w64}
 use Rattle.std.proofs.lemmas.Int.{to_z-of_z}
 use Rattle.mn_prop.specs.Contexts.{vars_of}
 use Rattle.mn_element.proofs.Closing.{no_entry, one_entry, open_index}
-use Rattle.mn_element.proofs.Indexed.{index_named, is_indexed}
-use Rattle.mn_element.proofs.element.Element.narrow_entry.Goals as goal
+use Rattle.mn_element.proofs.Supporting.{index_named, is_indexed}
+use Rattle.mn_element.proofs.indexed.Indexed.narrow_entry.Goals as goal
 
 pub lo-lo-requires : goal.lo-lo-requires
 lo-lo-requires c = let s = c.args.self.now in index_named (is_indexed s.form s.v.now s.x s.y) (vars_of c.args.c.now) s.inst.now.tuples c.requires

@@ -4,7 +4,7 @@ use Rattle.mn_prop.specs.Contexts.{box_of}
 use Rattle.mn_element.specs.Elements.{first_index}
 use Rattle.mn_element.specs.Picks.{PicksAt}
 use Rattle.mn_element.proofs.Looking.{NoneBelow}
-use Rattle.mn_element.proofs.element.Element.picks.Given as goal
+use Rattle.mn_element.proofs.indexed.Indexed.picks.Given as goal
 
 -- the entry at no lesser index is picked
 abbrev pub invariant-loop-wanted : goal.invariant-loop-wanted

@@ -1,13 +1,13 @@
 use Rattle.std.proofs.Common.{subst, sym, ◌∙◌}
 use Rattle.mn_prop.specs.Posts.{IsReadyToRun}
 use Rattle.mn_prop.proofs.Stepping.{same_vars}
-use Rattle.mn_element.specs.Elements.{element_of}
+use Rattle.mn_element.specs.Elements.{indexed_of}
 use Rattle.mn_element.proofs.Closing.{pass_step, result_stops}
-use Rattle.mn_element.proofs.Indexed.{is_indexed}
-use Rattle.mn_element.proofs.element.Element.filter.Goals as goal
+use Rattle.mn_element.proofs.Supporting.{is_indexed}
+use Rattle.mn_element.proofs.indexed.Indexed.filter.Goals as goal
 
 pub revise-requires-2-clause-ready : goal.revise-requires-2-clause-ready
-revise-requires-2-clause-ready c = subst (λ vars. IsReadyToRun vars (element_of c.args.self.now)) (sym (same_vars c.in_ok-revise.ensures.loses)) c.requires
+revise-requires-2-clause-ready c = subst (λ vars. IsReadyToRun vars (indexed_of c.args.self.now)) (sym (same_vars c.in_ok-revise.ensures.loses)) c.requires
 
 pub returns-in_err-revise-2 : goal.returns-in_err-revise-2
 returns-in_err-revise-2 c =
@@ -15,7 +15,7 @@ returns-in_err-revise-2 c =
     result_stops (is_indexed s.form s.v.now s.x s.y) s.inst.now.tuples c.len-entries.result c.len-entries.ensures c.args.c.now c.revise.new.c c.revise-2.new.c c.in_ok-revise.field-0 c.revise-2.result c.from_residual-in_err-revise-2.result _ c.in_ok-revise.ensures c.revise-2.ensures c.in_err-revise-2.was c.from_residual-in_err-revise-2.ensures.0
 
 pub narrow_entry-requires : goal.narrow_entry-requires
-narrow_entry-requires c = subst (λ vars. IsReadyToRun vars (element_of c.args.self.now)) (sym (same_vars c.in_ok-revise-2.ensures.loses ∙ same_vars c.in_ok-revise.ensures.loses)) c.requires
+narrow_entry-requires c = subst (λ vars. IsReadyToRun vars (indexed_of c.args.self.now)) (sym (same_vars c.in_ok-revise-2.ensures.loses ∙ same_vars c.in_ok-revise.ensures.loses)) c.requires
 
 pub returns : goal.returns
 returns c =

@@ -2,8 +2,8 @@ use Rattle.std.proofs.Common.{w64, arith}
 use Rattle.std.proofs.lemmas.Int.{to_z-of_z}
 use Rattle.mn_prop.specs.Contexts.{box_of, vars_of}
 use Rattle.mn_element.proofs.Closing.{entry_told, index_told, place_count, result_told}
-use Rattle.mn_element.proofs.Indexed.{is_indexed}
-use Rattle.mn_element.proofs.element.ElementSupportTest.supported.Goals as goal
+use Rattle.mn_element.proofs.Supporting.{is_indexed}
+use Rattle.mn_element.proofs.indexed.IndexedSupportTest.supported.Goals as goal
 
 pub returns-then-i-entries : goal.returns-then-i-entries
 returns-then-i-entries c =

@@ -3,16 +3,19 @@ use Rattle.std.proofs.Common.{◌≡◌, ℕ, ◌+◌, ℤ, pos, negsuc, ◌+ℤ
 use Rattle.std.proofs.lemmas.Int.{ints}
 use Rattle.std.specs.List.{AllZip}
 use Rattle.mn_model.specs.Decided.{Decided, decide_nat}
+use Rattle.mn_model.specs.Lawful.{IsLawfulTerm}
 use Rattle.mn_model.specs.Parts.{places}
 use Rattle.mn_model.specs.declared.constraint.Con.{Con}
 use Rattle.mn_model.specs.declared.constraint.Term.{Term}
 use Rattle.mn_model.specs.declared.declaration.Tuples.{Tuples}
+use Rattle.mn_model.proofs.Lists.{all_at}
 use Rattle.mn_boxes.specs.Boxes.{IsBox}
 use Rattle.mn_boxes.specs.Places.{PlaceHas}
 use Rattle.mn_boxes.specs.Sets.{Variable}
 use Rattle.mn_meaning.specs.Families.{IsEntry}
 use Rattle.mn_meaning.specs.Meaning.{Meets, at, behind, front, last}
 use Rattle.mn_closure.specs.Levels.{Arc, level}
+use Rattle.mn_closure.specs.Ready.{declared_sets}
 use Rattle.mn_closure.specs.Supports.{ChoiceWith, StandsAt, Supported, SupportedAt}
 use Rattle.mn_prop.specs.Contexts.{IsNamed}
 use Rattle.mn_prop.specs.Posts.{IsReady, beside}
@@ -20,8 +23,8 @@ use Rattle.mn_prop.proofs.Boxing.{some_value}
 use Rattle.mn_prop.proofs.Ready.{ready_named}
 use Rattle.mn_element.specs.Elements.{entry_is, first_index}
 use Rattle.mn_element.specs.Picks.{IsWanted, Picks, PicksAt}
-use Rattle.mn_element.specs.declared.element.Form.{Form}
-use Rattle.mn_element.specs.declared.element.Form.TheVariants.{FromZero, WatchedFromZero, FromOne, WatchedFromOne}
+use Rattle.mn_element.specs.declared.indexed.Form.{Form}
+use Rattle.mn_element.specs.declared.indexed.Form.TheVariants.{FromZero, WatchedFromZero, FromOne, WatchedFromOne}
 use Rattle.mn_element.specs.declared.picking.Wanted.{Wanted}
 use Rattle.mn_element.specs.declared.picking.Wanted.TheVariants.{Anything, OfEntry, OfResult}
 use Rattle.mn_element.proofs.Chosen.{Parted, at_front, at_other, at_rest, at_there, chosen_at, chosen_both, chosen_with, front_of, got_there, in_front, in_rest, parted, some_chosen}
@@ -221,3 +224,13 @@ module _ {c : Con} {v : List Term} {x y : Term} {first : ℤ} (is : IsIndexed c 
     -- each entry has a value
     pub some_entry : (box : List (List ℤ)) → IsBox vars box → (i : ℕ) (t : Term) → slice_get v i ≡ Some t → (a : ℤ) × PlaceHas box t a
     some_entry box lawful i t stands = some_value vars box t lawful (entry_named i t stands)
+
+    -- the places may be asked for
+    pub entry_lawful : (i : ℕ) (t : Term) → slice_get v i ≡ Some t → IsLawfulTerm (declared_sets vars) t
+    entry_lawful i t stands = all_at (IsLawfulTerm (declared_sets vars)) (places c) i t ready.suits.named (entry_stands i t stands)
+
+    pub index_lawful : IsLawfulTerm (declared_sets vars) x
+    index_lawful = all_at (IsLawfulTerm (declared_sets vars)) (places c) (length v) x ready.suits.named index_stands
+
+    pub result_lawful : IsLawfulTerm (declared_sets vars) y
+    result_lawful = all_at (IsLawfulTerm (declared_sets vars)) (places c) (length v + 1) y ready.suits.named result_stands

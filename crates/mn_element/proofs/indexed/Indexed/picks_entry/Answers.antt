@@ -1,6 +1,6 @@
 use Rattle.mn_prop.specs.Contexts.{vars_of}
-use Rattle.mn_element.proofs.Indexed.{entry_named, is_indexed, result_named}
-use Rattle.mn_element.proofs.element.Element.picks_entry.Goals as goal
+use Rattle.mn_element.proofs.Supporting.{entry_named, is_indexed, result_named}
+use Rattle.mn_element.proofs.indexed.Indexed.picks_entry.Goals as goal
 
 pub share-requires-clause-first : goal.share-requires-clause-first
 share-requires-clause-first c = let s = c.args.self.now in entry_named (is_indexed s.form s.v.now s.x s.y) (vars_of c.args.c.now) s.inst.now.tuples c.requires.ready c.args.k c.get-t.result.now c.get-t.ensures
