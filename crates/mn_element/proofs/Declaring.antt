@@ -1,5 +1,5 @@
 -- The ends of what is declared.
-use Rattle.std.proofs.Common.{◌≡◌, ◌<◌, ℤ, ◌≤ℤ◌, ◌⊎◌, inl, inr, List, length, map, sym, subst, arith}
+use Rattle.std.proofs.Common.{◌≡◌, ◌<◌, ℤ, ◌≤ℤ◌, ◌⊎◌, inl, inr, List, sym, subst, arith}
 use Rattle.std.proofs.lemmas.List.{length-map}
 use Rattle.mn_model.specs.Domain.{IsDomain, IsFirst, IsLast, IsValue}
 use Rattle.mn_model.specs.Lawful.{IsLawfulTerm}

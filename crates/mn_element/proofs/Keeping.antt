@@ -1,17 +1,16 @@
 -- What the parts of a pass by sets are towards, and that together they close the box.
-use Rattle.std.proofs.Common.{◌≡◌, ℕ, ◌+◌, ℤ, Bool, true, false, List, length, slice_get, Some, Result, Ok, Err, IsErr, IsTrue, refl, sym, subst, ap, ◌∙◌, true≢false}
+use Rattle.std.proofs.Common.{◌≡◌, ◌+◌, ℤ, Bool, true, List, length, Some, Result, Ok, Err, IsErr, refl, sym, subst, ◌∙◌, true≢false}
 use Rattle.mn_model.specs.Lawful.{IsLawfulTerm}
 use Rattle.mn_model.specs.declared.constraint.Con.{Con}
 use Rattle.mn_model.specs.declared.constraint.Term.{Term}
 use Rattle.mn_model.specs.declared.declaration.Tuples.{Tuples}
 use Rattle.mn_boxes.specs.Boxes.{Inside, IsBox}
 use Rattle.mn_boxes.specs.Places.{PlaceHas}
-use Rattle.mn_boxes.specs.Sets.{Variable}
 use Rattle.mn_boxes.specs.Values.{members}
 use Rattle.mn_closure.specs.Closed.{Asked, LeafClosed}
 use Rattle.mn_closure.specs.Levels.{Arc, level}
 use Rattle.mn_closure.specs.Ready.{declared_sets}
-use Rattle.mn_closure.specs.Supports.{StandsAt, Supported}
+use Rattle.mn_closure.specs.Supports.{Supported}
 use Rattle.mn_closure.proofs.Wider.{wider_place, wider_supported}
 use Rattle.mn_prop.specs.Contexts.{Context, IsNamed, box_of, vars_of}
 use Rattle.mn_prop.specs.Losses.{Unsupported}
@@ -21,7 +20,7 @@ use Rattle.mn_prop.specs.Revising.{PlaceClosed}
 use Rattle.mn_prop.specs.Sifting.{IsSifted}
 use Rattle.mn_prop.specs.declared.context.Fail.{Fail}
 use Rattle.mn_prop.proofs.Stepping.{as_step, goes_inside, same_vars, stop_step, then_step}
-use Rattle.mn_element.specs.Gathers.{IsGathered, PicksAmong}
+use Rattle.mn_element.specs.Gathers.{IsGathered}
 use Rattle.mn_element.specs.Picks.{EntryClosed}
 use Rattle.mn_element.specs.declared.gathered.Picked.{Picked}
 use Rattle.mn_element.proofs.Closing.{all_closed, closed_entry}

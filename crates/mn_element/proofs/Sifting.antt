@@ -10,14 +10,14 @@ use Rattle.mn_boxes.specs.Places.{PlaceHas, is_place_bounded}
 use Rattle.mn_boxes.specs.Sets.{Variable}
 use Rattle.mn_boxes.proofs.Quiet.{set_or_none}
 use Rattle.mn_closure.specs.Closed.{Asked}
-use Rattle.mn_closure.specs.Levels.{Arc, Hull, Level}
+use Rattle.mn_closure.specs.Levels.{Arc, Hull}
 use Rattle.mn_closure.proofs.Wider.{wider_place}
-use Rattle.mn_prop.specs.Contexts.{Context, IsNamed, NonePasses, box_of, vars_of}
+use Rattle.mn_prop.specs.Contexts.{Context, IsNamed, box_of, vars_of}
 use Rattle.mn_prop.specs.Passes.{AllPass, IsStep}
 use Rattle.mn_prop.specs.Sifting.{IsSift, IsSifted}
 use Rattle.mn_prop.specs.declared.context.Fail.{Fail}
 use Rattle.mn_prop.proofs.Boxing.{kept_at_passes}
-use Rattle.mn_prop.proofs.Ended.{Greatest, Least, greatest_of, least_of}
+use Rattle.mn_prop.proofs.Ended.{greatest_of, least_of}
 use Rattle.mn_prop.proofs.Kept.{stays_here}
 use Rattle.mn_prop.proofs.Sifting.{sift_passes}
 use Rattle.mn_prop.proofs.Stepping.{change_step, changed_box, changed_vars}

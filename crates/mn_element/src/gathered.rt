@@ -1,5 +1,6 @@
 //! The entry of a vector at an index, by sets.
 ghost use Rattle.std.specs.Prelude.{◌≡◌, ◌≤◌, ◌≤ℤ◌, ℤ, pos, IsTrue, false};
+ghost use Rattle.mn_model.specs.declared.limits.TheConstants.{PLACES};
 ghost use Rattle.mn_boxes.specs.Values.{members};
 ghost use Rattle.mn_boxes.specs.Boxes.{declared_variables};
 ghost use Rattle.mn_prop.specs.Contexts.{box_of, vars_of};
@@ -10,16 +11,15 @@ ghost use Rattle.mn_prop.specs.Posts.{ClosedUnderLeaf, IsReadyToRun};
 use crate::indexed::Indexed;
 use crate::stretch::{Ends, Stretch};
 use mn_boxes::ValueSet;
+use mn_model::PLACES;
 use mn_prop::{Ctx, Fail};
 use std::alloc::{AllocError, Global};
 
-/// The most entries for which sets are made.
-const ENTRIES: usize = 65_536;
-
-/// How many values the sets may have for each entry, and whatever the entries.
+/// How many values a set may have room for, for each entry.
 const EACH: i64 = 64;
 
-const ANYWAY: i64 = 4096;
+/// And how many beside those.
+const BESIDE: i64 = 4096;
 
 /// What a pass gathers. The sets are filled anew at each.
 #[derive(Drop)]
@@ -48,10 +48,10 @@ impl Gathered {
         requires { IsReadyToRun (declared_variables of.now.inst.now.decls) (indexed_of of.now) }
     {
         let entries = of.v.len();
-        if entries == 0 || entries > ENTRIES {
+        if entries == 0 || entries > PLACES as usize {
             return Ok(None);
         }
-        let most = EACH * entries as i64 + ANYWAY;
+        let most = EACH * entries as i64 + BESIDE;
         let ends = match of.declared_ends(most) {
             Some(ends) => ends,
             None => return Ok(None),
@@ -161,9 +161,9 @@ fn last_index(first: i64, entries: usize) -> i64
     requires first { pos 0 ≤ℤ first }
     requires low { first ≤ℤ pos 1 }
     requires some { 1 ≤ entries }
-    requires few { entries ≤ 65536 }
+    requires few { entries ≤ PLACES }
     ensures low { first ≤ℤ result }
-    ensures high { result ≤ℤ pos 65536 }
+    ensures high { result ≤ℤ pos PLACES }
 {
     first + (entries as i64 - 1)
 }

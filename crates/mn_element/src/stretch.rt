@@ -15,7 +15,7 @@ use mn_prop::Ctx;
 use std::alloc::{AllocError, Global};
 
 /// A least and a greatest value.
-#[derive(Clone, Copy, Debug)]
+#[derive(Clone, Copy)]
 pub(crate) struct Ends {
     pub(crate) lo: i64,
     pub(crate) hi: i64,

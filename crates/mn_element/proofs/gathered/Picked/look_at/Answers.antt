@@ -1,4 +1,4 @@
-use Rattle.std.proofs.Common.{false, sym, subst, ◌∙◌, true≢false, w64}
+use Rattle.std.proofs.Common.{sym, ◌∙◌, true≢false, w64}
 use Rattle.std.proofs.lemmas.Int.{to_z-of_z}
 use Rattle.mn_prop.specs.Contexts.{box_of, vars_of}
 use Rattle.mn_element.specs.Elements.{first_index}

@@ -1,4 +1,4 @@
-use Rattle.std.proofs.Common.{◌≡◌, ℤ, pos, ◌-ℤ◌, to_z, of_z, FitsSigned, rules, w64, refl, arith}
+use Rattle.std.proofs.Common.{pos, ◌-ℤ◌, FitsSigned, rules, w64, refl, arith}
 use Rattle.std.proofs.lemmas.Int.{ints, to_z-of_z}
 use Rattle.mn_prop.specs.Contexts.{box_of}
 use Rattle.mn_element.proofs.Filling.{all_filled, begins_filling, goes_on_to}
