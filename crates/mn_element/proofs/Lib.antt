@@ -1,0 +1,9 @@
+pub mod Chosen
+pub mod Closing
+pub mod Declaring
+pub mod Filling
+pub mod Gathering
+pub mod Keeping
+pub mod Looking
+pub mod Sifting
+pub mod Supporting

@@ -1,0 +1,4 @@
+pub mod Elements
+pub mod Gathers
+pub mod Picks
+pub mod Stretches
