@@ -3,14 +3,16 @@ use Rattle.std.specs.Prelude.{Bool, false}
 use Rattle.mn_prop.specs.Posts.{Posted}
 use Rattle.mn_basic.specs.Basics as basics
 use Rattle.mn_count.specs.Counts as counts
+use Rattle.mn_element.specs.Elements as elements
 use Rattle.mn_lex.specs.Lexicals as lexicals
 use Rattle.mn_sums.specs.Posted as sums
 use Rattle.mn_leaf.specs.declared.leaf.Leaf.{Leaf}
-use Rattle.mn_leaf.specs.declared.leaf.Leaf.TheVariants.{Basic, Count, Lex, Sum}
+use Rattle.mn_leaf.specs.declared.leaf.Leaf.TheVariants.{Basic, Count, Element, Lex, Sum}
 
 abbrev pub posted_of : Leaf → Posted
 posted_of (Basic b) = basics.posted_of b
 posted_of (Sum s) = sums.posted_of s
+posted_of (Element e) = elements.element_of e
 posted_of (Count c) = counts.posted_of c
 posted_of (Lex l) = lexicals.posted_of l
 
@@ -18,5 +20,6 @@ posted_of (Lex l) = lexicals.posted_of l
 abbrev pub rests_of : Leaf → Bool
 rests_of (Basic b) = basics.rests_of b
 rests_of (Sum s) = false
+rests_of (Element e) = false
 rests_of (Count c) = counts.rests_of c
 rests_of (Lex l) = lexicals.rests_of l

@@ -8,6 +8,7 @@ ghost use Rattle.mn_leaf.specs.Leaves.{posted_of, rests_of};
 use mn_basic::Basic;
 use mn_count::Count;
 use mn_domains::Doms;
+use mn_element::Element;
 use mn_lex::LexCon;
 use mn_model::{Con, Instance, Term};
 use mn_prop::{Ctx, Fail, Make, Runner, Scoped};
@@ -21,6 +22,8 @@ pub enum Leaf<'a> {
     Basic(Basic<'a>),
     /// Sums.
     Sum(Sum<'a>),
+    /// The entry of a vector at an index.
+    Element(Element<'a>),
     /// Equal values that are counted.
     Count(Count<'a>),
     /// Two vectors.
@@ -41,9 +44,17 @@ impl<'a> Leaf<'a> {
             | Con::Watchsumleq(_, _)
             | Con::Watchsumgeq(_, _)
             | Con::Litsumgeq(_, _, _) => Ok(Leaf::Sum(Sum::build(alloc, inst, con)?)),
-            Con::Alldiff(_) | Con::Nvalueleq(_, _) => {
-                Ok(Leaf::Count(Count::build(alloc, inst, con)?))
+            Con::Element(_, _, _)
+            | Con::Watchelement(_, _, _)
+            | Con::ElementOne(_, _, _)
+            | Con::WatchelementOne(_, _, _) => {
+                Ok(Leaf::Element(Element::build(alloc, inst, con)?))
             }
+            Con::Alldiff(_)
+            | Con::Occurrence(_, _, _)
+            | Con::Occurrenceleq(_, _, _)
+            | Con::Occurrencegeq(_, _, _)
+            | Con::Nvalueleq(_, _) => Ok(Leaf::Count(Count::build(alloc, inst, con)?)),
             Con::Lexleq(_, _) | Con::Lexless(_, _) | Con::Watchvecneq(_, _) => {
                 Ok(Leaf::Lex(LexCon::build(inst, con)))
             }
@@ -61,6 +72,7 @@ impl Scoped for Leaf<'_> {
         match self {
             Leaf::Basic(b) => b.places(),
             Leaf::Sum(s) => s.places(),
+            Leaf::Element(e) => e.places(),
             Leaf::Count(c) => c.places(),
             Leaf::Lex(l) => l.places(),
         }
@@ -70,6 +82,7 @@ impl Scoped for Leaf<'_> {
         match self {
             Leaf::Basic(b) => b.term(i),
             Leaf::Sum(s) => s.term(i),
+            Leaf::Element(e) => e.term(i),
             Leaf::Count(c) => c.term(i),
             Leaf::Lex(l) => l.term(i),
         }
@@ -83,6 +96,7 @@ impl Runner for Leaf<'_> {
         match self {
             Leaf::Basic(b) => b.settles(),
             Leaf::Sum(s) => s.settles(),
+            Leaf::Element(e) => e.settles(),
             Leaf::Count(c) => c.settles(),
             Leaf::Lex(l) => l.settles(),
         }
@@ -92,6 +106,7 @@ impl Runner for Leaf<'_> {
         match self {
             Leaf::Basic(b) => b.pass(c),
             Leaf::Sum(s) => s.pass(c),
+            Leaf::Element(e) => e.pass(c),
             Leaf::Count(k) => k.pass(c),
             Leaf::Lex(l) => l.pass(c),
         }
