@@ -10,6 +10,8 @@
 mod alldiff;
 mod changes;
 mod count;
+mod open;
+mod taken;
 
 pub use alldiff::Alldiff;
 pub use count::Count;
