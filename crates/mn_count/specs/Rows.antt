@@ -1,5 +1,5 @@
 -- Places that are still open, by their numbers.
-use Rattle.std.specs.Prelude.{◌≡◌, ℕ, ◌-◌, ◌<◌, ◌≤◌, List, length, slice_index, slice_set}
+use Rattle.std.specs.Prelude.{◌≡◌, ℕ, ◌+◌, ◌-◌, ◌<◌, ◌≤◌, List, length, slice_index, slice_set}
 
 -- numbers, of which the first ones are in use
 pub record Row : Type 0 where
@@ -22,3 +22,7 @@ IsIn r i = (k : ℕ) × StandsIn r k i
 -- without the number at k, in whose place stands the last one
 abbrev pub without : ℕ → Row → Row
 without k r = record { items = slice_set r.items k (slice_index r.items (r.left - 1)); left = r.left - 1 }
+
+-- one number less is in use. Each from k on stood behind k
+abbrev pub IsShrunk : ℕ → Row → Row → Type 0
+IsShrunk k old new = (new.left + 1 ≡ old.left) × ((m : ℕ) → k ≤ m → m < new.left → (n : ℕ) × (k < n) × (n < old.left) × (slice_index new.items m ≡ slice_index old.items n))

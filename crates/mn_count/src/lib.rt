@@ -10,9 +10,12 @@
 mod alldiff;
 mod changes;
 mod count;
+mod dense;
 mod open;
+mod rounds;
 mod taken;
 
 pub use alldiff::Alldiff;
 pub use count::Count;
+pub use dense::Dense;
 pub use std::alloc::AllocError as NoMemory;
