@@ -1,10 +1,14 @@
 -- Looking at the open places one by one, from the last on.
-use Rattle.std.proofs.Common.{◌≡◌, ℕ, ℤ, ◌+◌, ◌-◌, ◌<◌, ◌≤◌, inl, inr, List, get_or, slice_get, Some, refl, sym, subst, ap, ◌∙◌, arith}
+use Rattle.std.proofs.Common.{◌≡◌, ℕ, ℤ, ◌+◌, ◌-◌, ◌<◌, ◌≤◌, ◌⊎◌, inl, inr, Ok, List, get_or, slice_get, Some, refl, sym, subst, ap, ◌∙◌, arith}
 use Rattle.mn_model.specs.Decided.{Decided, decide_nat}
 use Rattle.mn_model.specs.declared.constraint.Term.{Term}
+use Rattle.mn_model.specs.declared.declaration.Tuples.{Tuples}
+use Rattle.mn_boxes.specs.Sets.{Variable}
 use Rattle.mn_boxes.specs.Values.{Values}
 use Rattle.mn_count.specs.Rows.{IsShrunk, Row}
-use Rattle.mn_count.specs.Takings.{IsOpenAt, IsTaking}
+use Rattle.mn_count.specs.Takings.{IsOpenAt, IsSeen, IsTaking}
+use Rattle.mn_count.specs.declared.rounds.Seen.{Seen}
+use Rattle.mn_count.specs.declared.rounds.Seen.TheVariants.{Alone, Open}
 
 -- the last n of so many places were looked at: those of them that stay among the open ones have two values. Where none went
 -- nothing changed
@@ -54,6 +58,15 @@ module _ (v : List Term) (box : List (List ℤ)) (taken_old : Values) (row_old :
       seen m from below t at =
           let stood = shrunk.1 m (omega (arith, from, within)) below in
           s.seen stood.0 (let behind = stood.1 in omega (arith, behind, within)) stood.2 t (ap (slice_get v) (sym stood.3) ∙ at)
+
+  -- whichever of both was seen
+  pub next_collected : (vars : List Variable) (lists : List Tuples) (taken taken_now : Values) (row row_now : Row) (n : ℕ) (seen : Seen) → n < before → Collecting v box taken_old row_old taken row before n → (seen ≡ Open) ⊎ (seen ≡ Alone) → IsSeen vars lists v (before - 1 - n) box taken row taken_now row_now (Ok seen) → Collecting v box taken_old row_old taken_now row_now before (n + 1)
+  next_collected vars lists taken taken_now row row_now n seen within s (inl is) now =
+      let had = subst (λ r. IsSeen vars lists v (before - 1 - n) box taken row taken_now row_now (Ok r)) is now in
+      open_collected taken taken_now row row_now n within s had.0 had.1 had.2
+  next_collected vars lists taken taken_now row row_now n seen within s (inr is) now =
+      let had = subst (λ r. IsSeen vars lists v (before - 1 - n) box taken row taken_now row_now (Ok r)) is now in
+      alone_collected taken taken_now row row_now n within s had.0 had.1
 
   pub all_open : (taken : Values) (row : Row) (n : ℕ) → before ≤ n → Collecting v box taken_old row_old taken row before n → row.left ≡ before → (k : ℕ) → k < row_old.left → IsOpenAt v row_old k box
   all_open taken row n whole s same k less =

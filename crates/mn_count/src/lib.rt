@@ -1,7 +1,8 @@
 //! Propagators of constraints that count equal values: `alldiff` and `nvalueleq`.
 //!
 //! A `Count` narrows the places of one such constraint, with the promises of a `Runner`. `alldiff` has level Fixed: a value goes
-//! from a place where another place has it alone. `nvalueleq` is checked forward.
+//! from a place where another place has it alone. Where the declared values stand close together, a pass takes all of them out
+//! of the open places at once, and goes on until no more places have one value alone. `nvalueleq` is checked forward.
 //!
 //! The crate stands on `mn_prop`, which says what a propagator owes, and on `mn_closure`, `mn_boxes`, `mn_domains`,
 //! `mn_meaning` and `mn_model`.

@@ -1,5 +1,5 @@
 -- How many places of two vectors can differ, and values of them that differ there.
-use Rattle.std.proofs.Common.{◌≡◌, ◌≢◌, ℕ, zero, suc, ◌+◌, ◌<◌, ◌≤◌, ℤ, pos, ◌≤ℤ◌, ◌⊎◌, inl, inr, Bool, true, false, ◌&&◌, if◌then◌else◌, List, [], ◌∷◌, length, slice_get, slice_index_or, Some, refl, sym, subst, ap, ◌∙◌, arith, true≢false}
+use Rattle.std.proofs.Common.{◌≡◌, ◌≢◌, ℕ, zero, suc, ◌+◌, ◌<◌, ◌≤◌, ℤ, pos, ◌+ℤ◌, ◌≤ℤ◌, ◌⊎◌, inl, inr, Bool, true, false, ◌&&◌, if◌then◌else◌, List, [], ◌∷◌, length, drop, slice_get, slice_index_or, Some, refl, sym, subst, ap, ◌∙◌, arith, true≢false}
 use Rattle.std.proofs.lemmas.Int.{ints}
 use Rattle.std.specs.Ordering.{int_eq}
 use Rattle.mn_model.specs.Decided.{Decided, decide_int}
@@ -186,3 +186,56 @@ module _ (box : List (List ℤ)) where
         nearly = omega (arith, counts, nearly);
         all = λ e. (let all = rest.all e in omega (arith, counts, all));
       }
+
+-- ---- counting from the front
+
+no_second : (box : List (List ℤ)) (us : List Term) → open_pairs box us [] ≡ 0
+no_second box [] = refl
+no_second box (u ∷ us) = refl
+
+pub none_left : (box : List (List ℤ)) (n : ℕ) (v w : List Term) → length v ≤ n → open_pairs box (drop n v) (drop n w) ≡ 0
+none_left box zero [] w past = refl
+none_left box zero (x ∷ v) w past = absurd (omega (arith, past))
+none_left box (suc n) [] w past = refl
+none_left box (suc n) (x ∷ v) [] past = no_second box (drop n v)
+none_left box (suc n) (x ∷ v) (y ∷ w) past = none_left box n v w (omega (arith, past))
+
+pub next_left : (box : List (List ℤ)) (i : ℕ) (v w : List Term) (x y : Term) → slice_get v i ≡ Some x → slice_get w i ≡ Some y → open_pairs box (drop i v) (drop i w) ≡ (if is_one box x y then 0 else 1) + open_pairs box (drop (suc i) v) (drop (suc i) w)
+next_left box i [] w x y at_x at_y = cc
+next_left box i (u ∷ v) [] x y at_x at_y = cc
+next_left box zero (u ∷ v) (z ∷ w) x y at_x at_y =
+    let is_x : u ≡ x = cc in
+    let is_y : z ≡ y = cc in
+    ap (λ t. (if is_one box t z then 0 else 1) + open_pairs box v w) is_x ∙ ap (λ t. (if is_one box x t then 0 else 1) + open_pairs box v w) is_y
+next_left box (suc i) (u ∷ v) (z ∷ w) x y at_x at_y = next_left box i v w x y at_x at_y
+
+-- the pairs so far that can differ and those of the rest are all
+pub record Counts (box : List (List ℤ)) (v w : List Term) (i : ℕ) (count : ℤ) : Type 0 where
+  pub some : pos 0 ≤ℤ count
+  pub few : count ≤ℤ pos i
+  pub whole : count +ℤ pos (open_pairs box (drop i v) (drop i w)) ≡ pos (open_pairs box v w)
+
+pub none_counted : (box : List (List ℤ)) (v w : List Term) → Counts box v w 0 (pos 0)
+none_counted box v w = record { some = omega (arith, ints); few = omega (arith, ints); whole = omega (arith, ints) }
+
+counted : (box : List (List ℤ)) (v w : List Term) (i : ℕ) (count : ℤ) (x y : Term) (n : ℕ) → (if is_one box x y then 0 else 1) ≡ n → n ≤ 1 → slice_get v i ≡ Some x → slice_get w i ≡ Some y → Counts box v w i count → Counts box v w (i + 1) (count +ℤ pos n)
+counted box v w i count x y n is low at_x at_y c =
+    let next = next_left box i v w x y at_x at_y in
+    let some = c.some in
+    let few = c.few in
+    let whole = c.whole in
+    let step : open_pairs box (drop i v) (drop i w) ≡ n + open_pairs box (drop (suc i) v) (drop (suc i) w) = next ∙ ap (λ m. m + open_pairs box (drop (suc i) v) (drop (suc i) w)) is in
+    let sum : (count +ℤ pos n) +ℤ pos (open_pairs box (drop (suc i) v) (drop (suc i) w)) ≡ pos (open_pairs box v w) = omega (arith, ints, whole, step) in
+    record { some = omega (arith, ints, some); few = omega (arith, ints, few, low); whole = subst (λ m. (count +ℤ pos n) +ℤ pos (open_pairs box (drop m v) (drop m w)) ≡ pos (open_pairs box v w)) (omega arith) sum }
+
+pub open_counted : (box : List (List ℤ)) (v w : List Term) (i : ℕ) (count : ℤ) (x y : Term) → is_one box x y ≡ false → slice_get v i ≡ Some x → slice_get w i ≡ Some y → Counts box v w i count → Counts box v w (i + 1) (count +ℤ pos 1)
+open_counted box v w i count x y e at_x at_y c = counted box v w i count x y 1 (ap (λ (t : Bool). if t then 0 else 1) e) (omega arith) at_x at_y c
+
+pub one_passed : (box : List (List ℤ)) (v w : List Term) (i : ℕ) (count : ℤ) (x y : Term) → is_one box x y ≡ true → slice_get v i ≡ Some x → slice_get w i ≡ Some y → Counts box v w i count → Counts box v w (i + 1) count
+one_passed box v w i count x y e at_x at_y c = subst (Counts box v w (i + 1)) (omega (arith, ints)) (counted box v w i count x y 0 (ap (λ (t : Bool). if t then 0 else 1) e) (omega arith) at_x at_y c)
+
+pub all_counted : (box : List (List ℤ)) (v w : List Term) (i : ℕ) (count : ℤ) → length v ≤ i → Counts box v w i count → count ≡ pos (open_pairs box v w)
+all_counted box v w i count past c =
+    let none = none_left box i v w past in
+    let whole = c.whole in
+    omega (arith, ints, none, whole)

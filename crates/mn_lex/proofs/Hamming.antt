@@ -22,13 +22,13 @@ use Rattle.mn_prop.specs.Passes.{IsStep}
 use Rattle.mn_prop.specs.Posts.{IsReady, beside}
 use Rattle.mn_prop.specs.declared.context.Fail.{Fail}
 use Rattle.mn_prop.proofs.Boxing.{inside_through}
-use Rattle.mn_prop.proofs.Ended.{least_of}
+use Rattle.mn_prop.proofs.Ended.{Least, least_of}
 use Rattle.mn_prop.proofs.Going.{Going, arrives, begins, goes_on, goes_wrong, same_before}
 use Rattle.mn_prop.proofs.Stepping.{as_step, by_rule, failing, goes_inside, no_step, same_vars}
 use Rattle.mn_lex.specs.Orders.{AreOne, CanDiffer, is_one, open_pairs}
 use Rattle.mn_lex.specs.Pairs.{AreParted, EachAsked, IsSharedIn, ThatAt}
 use Rattle.mn_lex.proofs.Chosen.{chosen_there}
-use Rattle.mn_lex.proofs.Distant.{at_most_open, fewer_open, most_with, one_so, two_so}
+use Rattle.mn_lex.proofs.Distant.{MostWith, at_most_open, fewer_open, most_with, one_so, two_so}
 use Rattle.mn_lex.proofs.Leaders.{AllEnds, Chosen}
 use Rattle.mn_lex.proofs.Vectors.{IsOf, VectorsWith, closed_first, closed_second, closed_some, closed_vectors, first_at, first_ends, first_named, first_stands, has_ends, second_at, second_ends, second_named, second_stands, supported_first, supported_second}
 
@@ -51,7 +51,10 @@ module _ (old new : Context) (result : Result (Unit {0}) Fail) (x y : Term) (a :
       by_rule (λ box inside t b has that. inl (that.0, λ d at. alone d (wider_place box (box_of old) inside x d at) ∙ sym that.1))
       (as_step (λ box is inside parted b asked same. (let other = parted.1 b asked in other.2 (alone other.0 (wider_place box (box_of old) inside x other.0 other.1) ∙ sym same))) parted_so step)
     where
+      mine : Least Arc (vars_of old) (box_of old) x
       mine = least_of Arc (vars_of old) (box_of old) x lawful named_x
+
+      yours : Least Arc (vars_of old) (box_of old) y
       yours = least_of Arc (vars_of old) (box_of old) y lawful named_y
 
       parted_so : EachAsked (vars_of old) y (λ b. b ≢ a) (box_of old) → AreParted (vars_of old) x y (box_of old)
@@ -62,7 +65,10 @@ module _ (old new : Context) (result : Result (Unit {0}) Fail) (x y : Term) (a :
       by_rule (λ box inside t b has that. inr (that.0, λ d at. alone d (wider_place box (box_of old) inside y d at) ∙ sym that.1))
       (as_step (λ box is inside parted b asked same. (let other = parted.0 b asked in other.2 (same ∙ sym (alone other.0 (wider_place box (box_of old) inside y other.0 other.1))))) parted_so step)
     where
+      mine : Least Arc (vars_of old) (box_of old) x
       mine = least_of Arc (vars_of old) (box_of old) x lawful named_x
+
+      yours : Least Arc (vars_of old) (box_of old) y
       yours = least_of Arc (vars_of old) (box_of old) y lawful named_y
 
       parted_so : EachAsked (vars_of old) x (λ b. b ≢ a) (box_of old) → AreParted (vars_of old) x y (box_of old)
@@ -105,6 +111,7 @@ module _ (v w : List Term) (k : ℤ) (lists : List Tuples) where
     beside_it : (i : ℕ) (x y : Term) (a b : ℤ) → slice_get v i ≡ Some x → slice_get w i ≡ Some y → PlaceHas box x a → PlaceHas box y b → (k <ℤ pos (open_pairs box v w)) ⊎ ((k ≡ pos (open_pairs box v w)) × ((a ≢ b) ⊎ (is_one box x y ≡ true))) → VectorsWith box v w AreFar (first_at i) a × VectorsWith box v w AreFar (second_at i) b
     beside_it i x y a b at_x at_y has had enough = (record { xs = m.xs; ys = m.ys; first = m.first; second = m.second; given = m.one; related = far enough }, record { xs = m.xs; ys = m.ys; first = m.first; second = m.second; given = m.another; related = far enough })
       where
+        m : MostWith box v w i x y a b
         m = most_with box v w i x y a b long firsts seconds at_x at_y has had
 
         far : (k <ℤ pos (open_pairs box v w)) ⊎ ((k ≡ pos (open_pairs box v w)) × ((a ≢ b) ⊎ (is_one box x y ≡ true))) → AreFar m.xs m.ys
@@ -151,6 +158,12 @@ module _ (v w : List Term) (k : ℤ) (lists : List Tuples) where
 
   -- ---- steps
 
+  module _ (old : Context) where
+    -- the first n pairs are parted
+    pub record PartedTo (now : Context) (n : ℕ) : Type 0 where
+      pub going : Going (Unsupported (beside lists (con.Hamming v w k))) (LeafClosed (vars_of old) lists (con.Hamming v w k)) old now
+      pub before : box_of now ≡ box_of old → (i : ℕ) → i < n → IsApartAt (vars_of old) (box_of old) i (box_of old)
+
   module _ (old : Context) (lawful : IsBox (vars_of old) (box_of old)) (ready : IsReady (vars_of old) lists (con.Hamming v w k)) where
     -- too few pairs can differ
     pub few_fails : (fail : Fail) → pos (open_pairs (box_of old) v w) <ℤ k → IsStep (Unsupported (beside lists (con.Hamming v w k))) (LeafClosed (vars_of old) lists (con.Hamming v w k)) old old (Err fail)
@@ -190,15 +203,10 @@ module _ (v w : List Term) (k : ℤ) (lists : List Tuples) where
               let some = supported_first hamming_is lists i t a box (at_x ∙ ap Some (sym shared.0)) supported in
               never_same box i x y some.xs some.ys inside at_x at_y e some.first some.second some.related (some.given ∙ sym (shared.1 (slice_index_or some.ys i (pos 0)) (chosen_there (PlaceHas box) w some.ys i y some.second at_y)))
 
-      -- the first n pairs are parted
-      pub record PartedTo (now : Context) (n : ℕ) : Type 0 where
-        pub going : Going (Unsupported (beside lists (con.Hamming v w k))) (LeafClosed (vars_of old) lists (con.Hamming v w k)) old now
-        pub before : box_of now ≡ box_of old → (i : ℕ) → i < n → IsApartAt (vars_of old) (box_of old) i (box_of old)
-
-      pub none_parted : PartedTo old 0
+      pub none_parted : PartedTo old old 0
       none_parted = record { going = begins old; before = λ same i less. absurd (omega (arith, less)) }
 
-      pub ready_now : {now : Context} {n : ℕ} → PartedTo now n → IsReady (vars_of now) lists (con.Hamming v w k)
+      pub ready_now : {now : Context} {n : ℕ} → PartedTo old now n → IsReady (vars_of now) lists (con.Hamming v w k)
       ready_now to = subst (λ vars. IsReady vars lists (con.Hamming v w k)) (sym (same_vars to.going.loses)) ready
 
       -- a pair that can differ now could differ before
@@ -209,46 +217,47 @@ module _ (v w : List Term) (k : ℤ) (lists : List Tuples) where
           by true e = absurd (can.differ (one_so (box_of old) x y (has_ends (vars_of old) (box_of old) x lawful named_x) (has_ends (vars_of old) (box_of old) y lawful named_y) e can.first can.second (wider_place (box_of now) (box_of old) inside x can.first can.has_first) (wider_place (box_of now) (box_of old) inside y can.second can.has_second)))
           by false e = e
 
-      own_step : {now new : Context} {result : Result (Unit {0}) Fail} (n : ℕ) (x y : Term) → PartedTo now n → slice_get v n ≡ Some x → slice_get w n ≡ Some y → CanDiffer (box_of now) x y → IsStep (IsSharedIn x y) (AreParted (vars_of now) x y) now new result → IsStep (Unsupported (beside lists (con.Hamming v w k))) (AreParted (vars_of old) x y) now new result
+      own_step : {now new : Context} {result : Result (Unit {0}) Fail} (n : ℕ) (x y : Term) → PartedTo old now n → slice_get v n ≡ Some x → slice_get w n ≡ Some y → CanDiffer (box_of now) x y → IsStep (IsSharedIn x y) (AreParted (vars_of now) x y) now new result → IsStep (Unsupported (beside lists (con.Hamming v w k))) (AreParted (vars_of old) x y) now new result
       own_step {now = now} {new = new} {result = result} n x y to at_x at_y can step =
           let inside = goes_inside to.going.loses in
           let e = could_differ now x y inside (first_named hamming_is (vars_of old) lists n x ready at_x) (second_named hamming_is (vars_of old) lists n y ready at_y) can in
           by_rule (λ box i t a has shared. shared_out box n x y t a (inside_through i inside) at_x at_y e shared) (subst (λ vars. IsStep (IsSharedIn x y) (AreParted vars x y) now new result) (same_vars to.going.loses) step)
 
-      parted_less : {now : Context} (n : ℕ) (x y : Term) → PartedTo now n → slice_get v n ≡ Some x → slice_get w n ≡ Some y → CanDiffer (box_of now) x y → (box : List (List ℤ)) → IsBox (vars_of old) box → Inside box (box_of now) → LeafClosed (vars_of old) lists (con.Hamming v w k) box → AreParted (vars_of old) x y box
+      parted_less : {now : Context} (n : ℕ) (x y : Term) → PartedTo old now n → slice_get v n ≡ Some x → slice_get w n ≡ Some y → CanDiffer (box_of now) x y → (box : List (List ℤ)) → IsBox (vars_of old) box → Inside box (box_of now) → LeafClosed (vars_of old) lists (con.Hamming v w k) box → AreParted (vars_of old) x y box
       parted_less {now = now} n x y to at_x at_y can box is i closed =
           let inside = goes_inside to.going.loses in
           let e = could_differ now x y inside (first_named hamming_is (vars_of old) lists n x ready at_x) (second_named hamming_is (vars_of old) lists n y ready at_y) can in
           closed_apart box n (inside_through i inside) closed x y at_x at_y e
 
-      pub next_parted : {now new : Context} {done : Unit {0}} (n : ℕ) (x y : Term) → PartedTo now n → slice_get v n ≡ Some x → slice_get w n ≡ Some y → CanDiffer (box_of now) x y → IsStep (IsSharedIn x y) (AreParted (vars_of now) x y) now new (Ok done) → PartedTo new (n + 1)
-      next_parted {now = now} {new = new} n x y to at_x at_y can step = record {
+      pub next_parted : {now new : Context} {done : Unit {0}} (n : ℕ) (x y : Term) → PartedTo old now n → slice_get v n ≡ Some x → slice_get w n ≡ Some y → CanDiffer (box_of now) x y → IsStep (IsSharedIn x y) (AreParted (vars_of now) x y) now new (Ok done) → PartedTo old new (n + 1)
+      next_parted {now = now} {new = new} {done = done} n x y to at_x at_y can step = record {
         going = goes_on to.going (parted_less n x y to at_x at_y can) own;
         before = λ same i less. (let unchanged : box_of now ≡ box_of old = same_before to.going own.loses same in below_more (λ j. IsApartAt (vars_of old) (box_of old) j (box_of old)) n (to.before unchanged) (here unchanged (own.still (same ∙ sym unchanged))) i less);
       }
         where
+          own : IsStep (Unsupported (beside lists (con.Hamming v w k))) (AreParted (vars_of old) x y) now new (Ok done)
           own = own_step n x y to at_x at_y can step
 
           here : box_of now ≡ box_of old → AreParted (vars_of old) x y (box_of now) → IsApartAt (vars_of old) (box_of old) n (box_of old)
           here unchanged parted s t at_s at_t e =
-              subst (λ z. AreParted (vars_of old) z t (box_of old)) (same_term at_x at_s) (subst (λ z. AreParted (vars_of old) x z (box_of old)) (same_term at_y at_t) (subst (AreParted (vars_of old) x y) unchanged parted))
+              subst (λ z. AreParted (vars_of old) z t (box_of old)) (same_term v at_x at_s) (subst (λ z. AreParted (vars_of old) x z (box_of old)) (same_term w at_y at_t) (subst (AreParted (vars_of old) x y) unchanged parted))
             where
-              same_term : {us : List Term} {a b : Term} → slice_get us n ≡ Some a → slice_get us n ≡ Some b → a ≡ b
-              same_term one another = cc (one, another)
+              same_term : (us : List Term) {a b : Term} → slice_get us n ≡ Some a → slice_get us n ≡ Some b → a ≡ b
+              same_term us one another = cc (one, another)
 
-      pub wrong_parted : {now new : Context} {fail : Fail} {end : Result (Unit {0}) Fail} (n : ℕ) (x y : Term) → PartedTo now n → slice_get v n ≡ Some x → slice_get w n ≡ Some y → CanDiffer (box_of now) x y → IsStep (IsSharedIn x y) (AreParted (vars_of now) x y) now new (Err fail) → IsErr end
+      pub wrong_parted : {now new : Context} {fail : Fail} {end : Result (Unit {0}) Fail} (n : ℕ) (x y : Term) → PartedTo old now n → slice_get v n ≡ Some x → slice_get w n ≡ Some y → CanDiffer (box_of now) x y → IsStep (IsSharedIn x y) (AreParted (vars_of now) x y) now new (Err fail) → IsErr end
           → IsStep (Unsupported (beside lists (con.Hamming v w k))) (LeafClosed (vars_of old) lists (con.Hamming v w k)) old new end
       wrong_parted n x y to at_x at_y can step err = goes_wrong to.going (parted_less n x y to at_x at_y can) (own_step n x y to at_x at_y can step) err
 
       -- a pair that is one value now is passed over
-      pub passed_parted : {now : Context} (n : ℕ) (x y : Term) → PartedTo now n → slice_get v n ≡ Some x → slice_get w n ≡ Some y → is_one (box_of now) x y ≡ true → PartedTo now (n + 1)
+      pub passed_parted : {now : Context} (n : ℕ) (x y : Term) → PartedTo old now n → slice_get v n ≡ Some x → slice_get w n ≡ Some y → is_one (box_of now) x y ≡ true → PartedTo old now (n + 1)
       passed_parted {now = now} n x y to at_x at_y one = record { going = to.going; before = λ same i less. below_more (λ j. IsApartAt (vars_of old) (box_of old) j (box_of old)) n (to.before same) (here same) i less }
         where
           here : box_of now ≡ box_of old → IsApartAt (vars_of old) (box_of old) n (box_of old)
-          here same s t at_s at_t e = absurd (true≢false (sym (subst (λ box. is_one box x y ≡ true) same one) ∙ (ap (λ z. is_one (box_of old) z y) (same_term at_x at_s) ∙ (ap (λ z. is_one (box_of old) s z) (same_term at_y at_t) ∙ e))))
+          here same s t at_s at_t e = absurd (true≢false (sym (subst (λ box. is_one box x y ≡ true) same one) ∙ (ap (λ z. is_one (box_of old) z y) (same_term v at_x at_s) ∙ (ap (λ z. is_one (box_of old) s z) (same_term w at_y at_t) ∙ e))))
             where
-              same_term : {us : List Term} {a b : Term} → slice_get us n ≡ Some a → slice_get us n ≡ Some b → a ≡ b
-              same_term p q = cc (p, q)
+              same_term : (us : List Term) {a b : Term} → slice_get us n ≡ Some a → slice_get us n ≡ Some b → a ≡ b
+              same_term us p q = cc (p, q)
 
-      pub all_parted : {now : Context} (n : ℕ) → length v ≤ n → PartedTo now n → IsStep (Unsupported (beside lists (con.Hamming v w k))) (LeafClosed (vars_of old) lists (con.Hamming v w k)) old now (Ok tt)
+      pub all_parted : {now : Context} (n : ℕ) → length v ≤ n → PartedTo old now n → IsStep (Unsupported (beside lists (con.Hamming v w k))) (LeafClosed (vars_of old) lists (con.Hamming v w k)) old now (Ok tt)
       all_parted n whole to = arrives to.going (λ same. parted_closed (vars_of old) (box_of old) lawful ready tight (λ i within. to.before same i (omega (arith, within, whole))))

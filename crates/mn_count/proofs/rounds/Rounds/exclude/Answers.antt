@@ -27,7 +27,7 @@ returns-in_err-exclude c =
     let s = c.args.self.now in
     let ready = subst (λ vars. IsReady vars d.inst.now.tuples (con.Alldiff d.v.now)) (sym (same_vars c.loop-k.invariant.going.loses)) c.requires.ready in
     let named = ready_named (beside d.inst.now.tuples (con.Alldiff d.v.now)) c.get.result ready c.get-t.ensures in
-    let step = free_step d.v.now d.inst.now.tuples c.args.c.now s.taken s.open c.requires.taking c.loop-k.k c.get-t.result.now c.get.ensures.stands.0 (ap (slice_get d.v.now) c.get.ensures.stands.1 ∙ c.get-t.ensures) (goes_inside c.loop-k.invariant.going.loses) (same_vars c.loop-k.invariant.going.loses) named c.in_err-exclude.ensures in
+    let step = free_step d.v.now d.inst.now.tuples c.args.c.now s.taken s.open c.requires.taking c.loop-k.k c.get-t.result.now c.get.ensures.stands.0 (ap (slice_get d.v.now) c.get.ensures.stands.1 ∙ c.get-t.ensures) (goes_inside c.loop-k.invariant.going.loses) (same_vars c.loop-k.invariant.going.loses) named (rw c.values.ensures at c.in_err-exclude.ensures) in
     turn_fails (IsFreeAt (vars_of c.args.c.now) d.v.now s.taken s.open) c.loop-k.invariant (λ box is inside free. free c.loop-k.k c.get.ensures.stands.0) step c.from_residual.ensures.0
 
 pub loop-k-preserved : goal.loop-k-preserved
@@ -36,5 +36,5 @@ loop-k-preserved c =
     let s = c.args.self.now in
     let ready = subst (λ vars. IsReady vars d.inst.now.tuples (con.Alldiff d.v.now)) (sym (same_vars c.loop-k.invariant.going.loses)) c.requires.ready in
     let named = ready_named (beside d.inst.now.tuples (con.Alldiff d.v.now)) c.get.result ready c.get-t.ensures in
-    let step = free_step d.v.now d.inst.now.tuples c.args.c.now s.taken s.open c.requires.taking c.loop-k.k c.get-t.result.now c.get.ensures.stands.0 (ap (slice_get d.v.now) c.get.ensures.stands.1 ∙ c.get-t.ensures) (goes_inside c.loop-k.invariant.going.loses) (same_vars c.loop-k.invariant.going.loses) named c.in_ok-exclude.ensures in
+    let step = free_step d.v.now d.inst.now.tuples c.args.c.now s.taken s.open c.requires.taking c.loop-k.k c.get-t.result.now c.get.ensures.stands.0 (ap (slice_get d.v.now) c.get.ensures.stands.1 ∙ c.get-t.ensures) (goes_inside c.loop-k.invariant.going.loses) (same_vars c.loop-k.invariant.going.loses) named (rw c.values.ensures at c.in_ok-exclude.ensures) in
     one_more_turn (IsFreeAt (vars_of c.args.c.now) d.v.now s.taken s.open) c.loop-k.invariant (λ box is inside free. free c.loop-k.k c.get.ensures.stands.0) step

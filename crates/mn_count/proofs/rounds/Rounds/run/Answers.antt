@@ -22,7 +22,7 @@ filter-requires c = let d = c.args.d.now in ready_now d.v.now d.inst.now.tuples 
 pub returns-in_err-collect-clause-step : goal.returns-in_err-collect-clause-step
 returns-in_err-collect-clause-step c =
     let d = c.args.d.now in
-    stuck d.v.now d.inst.now.tuples c.args.c.now c.in_err-collect.field-0 c.loop-self.invariant.going c.in_err-collect.ensures.1 c.from_residual.ensures.0
+    stuck d.v.now d.inst.now.tuples c.args.c.now c.in_err-collect.field-0.0 c.loop-self.invariant.going c.in_err-collect.ensures.1 c.from_residual.ensures.0
 
 pub returns-in-Done-clause-step : goal.returns-in-Done-clause-step
 returns-in-Done-clause-step c =
