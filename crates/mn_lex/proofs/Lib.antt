@@ -1,8 +1,6 @@
 pub mod Changed
 pub mod Chosen
 pub mod Differing
-pub mod Distant
-pub mod Hamming
 pub mod Leaders
 pub mod Meant
 pub mod Ordered

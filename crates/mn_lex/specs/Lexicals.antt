@@ -5,9 +5,8 @@ use Rattle.mn_model.specs.declared.constraint.Con.TheVariants as con
 use Rattle.mn_model.specs.declared.constraint.Term.{Term}
 use Rattle.mn_prop.specs.Posts.{Posted, beside}
 use Rattle.mn_lex.specs.declared.apart.Apart.{Apart}
-use Rattle.mn_lex.specs.declared.distance.Distance.{Distance}
 use Rattle.mn_lex.specs.declared.lex.LexCon.{LexCon}
-use Rattle.mn_lex.specs.declared.lex.LexCon.TheVariants.{Order, Differ, Distant}
+use Rattle.mn_lex.specs.declared.lex.LexCon.TheVariants.{Order, Differ}
 use Rattle.mn_lex.specs.declared.lexical.Lexical.{Lexical}
 
 -- a constraint of this crate
@@ -15,7 +14,6 @@ abbrev pub IsOfVectors : Con → Type 0
 IsOfVectors (con.Lexleq v w) = Unit {0}
 IsOfVectors (con.Lexless v w) = Unit {0}
 IsOfVectors (con.Watchvecneq v w) = Unit {0}
-IsOfVectors (con.Hamming v w k) = Unit {0}
 IsOfVectors c = ⊥
 
 -- two vectors in lexicographic order, where equal ones will do or not
@@ -29,16 +27,11 @@ lexical_of l = beside l.inst.now.tuples (in_order l.or_equal l.v.now l.w.now)
 abbrev pub apart_of : Apart → Posted
 apart_of d = beside d.inst.now.tuples (con.Watchvecneq d.v.now d.w.now)
 
-abbrev pub distance_of : Distance → Posted
-distance_of d = beside d.inst.now.tuples (con.Hamming d.v.now d.w.now d.least)
-
 abbrev pub posted_of : LexCon → Posted
 posted_of (Order l) = lexical_of l
 posted_of (Differ d) = apart_of d
-posted_of (Distant d) = distance_of d
 
 -- whether a pass leaves nothing for another one to do
 abbrev pub rests_of : LexCon → Bool
 rests_of (Order l) = false
 rests_of (Differ d) = true
-rests_of (Distant d) = false

@@ -1,6 +1,5 @@
 -- Boxes in which two vectors are in lexicographic order, or differ.
-use Rattle.std.specs.Prelude.{◌≡◌, ◌≢◌, ℕ, ◌+◌, ℤ, ◌<ℤ◌, ◌⊎◌, Bool, ◌&&◌, if◌then◌else◌, IsTrue, List, [], ◌∷◌, map, slice_get, Some}
-use Rattle.std.specs.Ordering.{int_eq}
+use Rattle.std.specs.Prelude.{◌≡◌, ◌≢◌, ℕ, ℤ, ◌<ℤ◌, ◌⊎◌, Bool, IsTrue, List, [], ◌∷◌, map, slice_get, Some}
 use Rattle.mn_model.specs.declared.constraint.Term.{Term}
 use Rattle.mn_boxes.specs.Places.{PlaceHas}
 use Rattle.mn_prop.specs.Contexts.{place_hi, place_lo}
@@ -47,12 +46,3 @@ pub record CanDiffer (box : List (List ℤ)) (x y : Term) : Type 0 where
   pub has_first : PlaceHas box x first
   pub has_second : PlaceHas box y second
   pub differ : first ≢ second
-
--- whether two places have one value, the same, by their ends; and how many pairs of places don't
-abbrev pub is_one : List (List ℤ) → Term → Term → Bool
-is_one box x y = int_eq (place_lo box x) (place_hi box y) && int_eq (place_hi box x) (place_lo box y)
-
-abbrev pub open_pairs : List (List ℤ) → List Term → List Term → ℕ
-open_pairs box [] w = 0
-open_pairs box (x ∷ v) [] = 0
-open_pairs box (x ∷ v) (y ∷ w) = (if is_one box x y then 0 else 1) + open_pairs box v w

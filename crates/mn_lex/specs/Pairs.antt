@@ -1,9 +1,8 @@
 -- What changes of a pair of places are towards.
-use Rattle.std.specs.Prelude.{◌≡◌, ◌≢◌, ◌<◌, ◌≤◌, ℕ, ℤ, ◌⊎◌, List, length, slice_get, Option, Some, None}
+use Rattle.std.specs.Prelude.{◌≡◌, ◌<◌, ◌≤◌, ℕ, ℤ, ◌⊎◌, List, length, slice_get, Option, Some, None}
 use Rattle.mn_model.specs.declared.constraint.Term.{Term}
-use Rattle.mn_boxes.specs.Places.{PlaceHas}
 use Rattle.mn_boxes.specs.Sets.{Variable}
-use Rattle.mn_closure.specs.Closed.{Asked, IsAlone}
+use Rattle.mn_closure.specs.Closed.{Asked}
 use Rattle.mn_closure.specs.Levels.{Arc}
 use Rattle.mn_prop.specs.Losses.{LessAt, MoreAt}
 use Rattle.mn_prop.specs.Passes.{AtLeastAt, AtMostAt}
@@ -34,12 +33,3 @@ pub record IsOpenPair (from i : ℕ) (box : List (List ℤ)) (v w : List Term) :
 abbrev pub IsNextOpen : ℕ → List (List ℤ) → List Term → List Term → Option ℕ → Type 0
 IsNextOpen from box v w None = AreOneWhere (λ j. from ≤ j) box v w
 IsNextOpen from box v w (Some i) = IsOpenPair from i box v w
-
--- each value of x that has to be supported differs from some value of y, and each of y from some of x
-abbrev pub AreParted : List Variable → Term → Term → List (List ℤ) → Type 0
-AreParted vars x y box =
-    ((a : ℤ) → Asked Arc vars box x a → (b : ℤ) × PlaceHas box y b × (a ≢ b)) × ((b : ℤ) → Asked Arc vars box y b → (a : ℤ) × PlaceHas box x a × (a ≢ b))
-
--- a value of one of the places that the other has alone
-abbrev pub IsSharedIn : Term → Term → List (List ℤ) → Term → ℤ → Type 0
-IsSharedIn x y box t a = ((t ≡ y) × IsAlone box x a) ⊎ ((t ≡ x) × IsAlone box y a)

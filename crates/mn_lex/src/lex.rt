@@ -8,7 +8,6 @@ ghost use Rattle.mn_prop.specs.Posts.{ClosedUnderLeaf, IsReadyToRun, beside};
 ghost use Rattle.mn_lex.specs.Lexicals.{IsOfVectors, posted_of, rests_of};
 
 use crate::apart::Apart;
-use crate::distance::Distance;
 use crate::lexical::Lexical;
 use mn_model::{Con, Instance, Term};
 use mn_prop::{Ctx, Fail, Runner, Scoped};
@@ -20,8 +19,6 @@ pub enum LexCon<'a> {
     Order(Lexical<'a>),
     /// Two vectors that differ.
     Differ(Apart<'a>),
-    /// Two vectors that differ at so many places.
-    Distant(Distance<'a>),
 }
 
 impl<'a> LexCon<'a> {
@@ -44,7 +41,6 @@ impl<'a> LexCon<'a> {
                 inst,
             }),
             Con::Watchvecneq(v, w) => LexCon::Differ(Apart { v, w, inst }),
-            Con::Hamming(v, w, k) => LexCon::Distant(Distance { v, w, least: *k, inst }),
             _ => unreachable!(),
         }
     }
@@ -58,7 +54,6 @@ impl<'a> LexCon<'a> {
         match self {
             LexCon::Order(o) => o.filter(c),
             LexCon::Differ(d) => d.filter(c),
-            LexCon::Distant(d) => d.filter(c),
         }
     }
 }
@@ -72,7 +67,6 @@ impl Scoped for LexCon<'_> {
         match self {
             LexCon::Order(o) => o.places(),
             LexCon::Differ(d) => d.places(),
-            LexCon::Distant(d) => d.places(),
         }
     }
 
@@ -80,7 +74,6 @@ impl Scoped for LexCon<'_> {
         match self {
             LexCon::Order(o) => o.term(i),
             LexCon::Differ(d) => d.term(i),
-            LexCon::Distant(d) => d.term(i),
         }
     }
 }
@@ -88,10 +81,10 @@ impl Scoped for LexCon<'_> {
 impl Runner for LexCon<'_> {
     ghost rests = { rests_of };
 
-    // A change of a place may reach another place that names the same variable.
+    // A cut of a place in order may reach another place that names the same variable.
     fn settles(&self) -> bool {
         match self {
-            LexCon::Order(_) | LexCon::Distant(_) => false,
+            LexCon::Order(_) => false,
             LexCon::Differ(_) => true,
         }
     }

@@ -1,4 +1,4 @@
-//! Propagators of the constraints of two vectors: `lexleq`, `lexless`, `watchvecneq` and `hamming`.
+//! Propagators of the constraints of two vectors: `lexleq`, `lexless` and `watchvecneq`.
 //!
 //! A `LexCon` narrows the places of one such constraint at level Arc, with the promises of a `Runner`. A choice takes one value
 //! for each place, so a variable that stands at two places counts as two. A pass takes time linear in the places at most, and
@@ -9,12 +9,10 @@
 #![tactic(auto)]
 
 mod apart;
-mod distance;
 mod lex;
 mod lexical;
 mod pair;
 
 pub use apart::Apart;
-pub use distance::Distance;
 pub use lex::LexCon;
 pub use lexical::Lexical;
