@@ -81,7 +81,10 @@ impl Dense<'_> {
     ghost use Rattle.mn_count.specs.Counts.{alldiff_of, dense_of};
 
     /// What narrows the places. None where the declared values don't stand close enough together.
-    pub(crate) fn build<'a>(alloc: Global, each: Alldiff<'a>) -> Result<Option<Dense<'a>>, AllocError>
+    pub(crate) fn build<'a>(
+        alloc: Global,
+        each: Alldiff<'a>,
+    ) -> Result<Option<Dense<'a>>, AllocError>
         ensures { IfOk result (λ some. IfSome some (λ d. dense_of d ≡ alldiff_of each.entry)) }
     {
         let Some(span) = declared_of_all(each.inst, each.v) else {

@@ -26,6 +26,7 @@ returns c =
     let fits : FitsSigned w64 c.lo-a.result = search rules in
     let alone = subst (IsAlone box c.get-t.result.now) (sym c.lo-a.ensures.is) (c.is_single.ensures.alone.0 c.if-not-is_single.false) in
     let is = rw (to_z-of_z w64 c.lo-a.result fits) at c.has.ensures in
-    let more = rw (to_z-of_z w64 c.lo-a.result fits) at c.insert.ensures in
-    (subst (λ r. IsTaking d.v.now c.insert.new.self r box) (sym c.take_out.ensures) (one_taken d.v.now s.taken c.insert.new.self s.open box c.args.k c.get.result c.get-t.result.now c.lo-a.result c.lawful-2.ensures c.requires.taking c.get.ensures.stands c.get-t.ensures c.lo-a.ensures.least.there alone (sym is ∙ c.if-has.false) (more c.if-not-insert.false)),
-    subst (IsShrunk c.args.k s.open) (sym c.take_out.ensures) (is_shrunk s.open c.lawful-2.ensures c.args.k c.requires.within))
+    let more = rw (to_z-of_z w64 c.lo-a.result fits) at c.insert.ensures in (
+      subst (λ r. IsTaking d.v.now c.insert.new.self r box) (sym c.take_out.ensures) (one_taken d.v.now s.taken c.insert.new.self s.open box c.args.k c.get.result c.get-t.result.now c.lo-a.result c.lawful-2.ensures c.requires.taking c.get.ensures.stands c.get-t.ensures c.lo-a.ensures.least.there alone (sym is ∙ c.if-has.false) (more c.if-not-insert.false)),
+      subst (IsShrunk c.args.k s.open) (sym c.take_out.ensures) (is_shrunk s.open c.lawful-2.ensures c.args.k c.requires.within),
+    )
