@@ -6,4 +6,9 @@ pub mod Occurring
 pub mod Spread
 pub mod Tallies
 pub mod Tightening
+pub mod Collected
+pub mod Rounding
+pub mod Rows
+pub mod Sifted
+pub mod Takings
 pub mod Turning

@@ -26,7 +26,7 @@ use Rattle.mn_count.specs.Singles.{EachAsked, IsGoneFrom, IsSpread, ThatAt}
 use Rattle.mn_count.proofs.Turning.{TurnsTo, all_turned, no_turn, one_more_turn, passed_turn, turn_fails}
 
 -- what has to be supported at one of the levels has to be at the other
-fixed_asked : {vars : List Variable} {box : List (List ℤ)} {t : Term} {a : ℤ} → Asked Arc vars box t a → Asked Fixed vars box t a
+pub fixed_asked : {vars : List Variable} {box : List (List ℤ)} {t : Term} {a : ℤ} → Asked Arc vars box t a → Asked Fixed vars box t a
 fixed_asked {vars = vars} {box = box} {t = t} {a = a} asked = record { there = asked.there; ends = λ e. by e }
   where
     by : IsTrue (is_place_bounded vars t) ⊎ (Fixed ≡ Hull) → IsPlaceEnd box t a
@@ -40,11 +40,11 @@ arc_asked {vars = vars} {box = box} {t = t} {a = a} asked = record { there = ask
     by (inl bounded) = asked.ends (inl bounded)
     by (inr hull) = cc
 
-same_term : (v : List Term) (i : ℕ) (t u : Term) → slice_get v i ≡ Some t → slice_get v i ≡ Some u → t ≡ u
+pub same_term : (v : List Term) (i : ℕ) (t u : Term) → slice_get v i ≡ Some t → slice_get v i ≡ Some u → t ≡ u
 same_term v i t u one another = cc (one, another)
 
 -- a place that has one value alone has it alone in each box inside
-alone_inside : (box old : List (List ℤ)) (t : Term) (a : ℤ) → Inside box old → IsAlone old t a → IsAlone box t a
+pub alone_inside : (box old : List (List ℤ)) (t : Term) (a : ℤ) → Inside box old → IsAlone old t a → IsAlone box t a
 alone_inside box old t a inside alone b has = alone b (wider_place box old inside t b has)
 
 module _ (v : List Term) (lists : List Tuples) where
@@ -62,7 +62,7 @@ module _ (v : List Term) (lists : List Tuples) where
       let some = else i t at (λ e. other (sym e)) in
       some.2 (alone some.0 some.1 ∙ sym same)
 
-  spread_closed : (vars : List Variable) (box : List (List ℤ)) → IsBox vars box → IsReady vars lists (con.Alldiff v) → ((i : ℕ) → i < length v → IsSpread vars v i box) → LeafClosed vars lists (con.Alldiff v) box
+  pub spread_closed : (vars : List Variable) (box : List (List ℤ)) → IsBox vars box → IsReady vars lists (con.Alldiff v) → ((i : ℕ) → i < length v → IsSpread vars v i box) → LeafClosed vars lists (con.Alldiff v) box
   spread_closed vars box is ready spread = record { bare = λ none. tt; supported = λ i t a at asked j u at_u other. none_else i t a at (arc_asked asked) j u at_u other }
     where
       none_else : (i : ℕ) (t : Term) (a : ℤ) → slice_get v i ≡ Some t → Asked Arc vars box t a → (j : ℕ) (u : Term) → slice_get v j ≡ Some u → j ≢ i → (b : ℤ) × PlaceHas box u b × (b ≢ a)

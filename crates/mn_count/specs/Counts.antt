@@ -6,9 +6,10 @@ use Rattle.mn_prop.specs.Forwards.{checked}
 use Rattle.mn_prop.specs.Posts.{Posted, beside}
 use Rattle.mn_count.specs.declared.alldiff.Alldiff.{Alldiff}
 use Rattle.mn_count.specs.declared.count.Count.{Count}
-use Rattle.mn_count.specs.declared.count.Count.TheVariants.{Differ, Few, Often}
+use Rattle.mn_count.specs.declared.count.Count.TheVariants.{Differ, DifferDense, Few, Often}
 use Rattle.mn_count.specs.declared.occurrence.Occurrence.{Occurrence}
 use Rattle.mn_count.specs.Occurrences.{con_of}
+use Rattle.mn_count.specs.declared.dense.Dense.{Dense}
 
 -- a constraint of this crate
 abbrev pub IsCounting : Con → Type 0
@@ -22,16 +23,21 @@ IsCounting c = ⊥
 abbrev pub alldiff_of : Alldiff → Posted
 alldiff_of d = beside d.inst.now.tuples (con.Alldiff d.v.now)
 
+abbrev pub dense_of : Dense → Posted
+dense_of d = alldiff_of d.each
+
 abbrev pub occurrence_of : Occurrence → Posted
 occurrence_of o = beside o.inst.now.tuples (con_of o.v.now o.k o.amount)
 
 abbrev pub posted_of : Count → Posted
 posted_of (Differ d) = alldiff_of d
+posted_of (DifferDense d) = dense_of d
 posted_of (Often o) = occurrence_of o
 posted_of (Few f) = checked f
 
 -- whether a pass leaves nothing for another one to do
 abbrev pub rests_of : Count → Bool
 rests_of (Differ d) = false
+rests_of (DifferDense d) = false
 rests_of (Often o) = false
 rests_of (Few f) = false

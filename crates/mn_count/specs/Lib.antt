@@ -1,3 +1,5 @@
 pub mod Counts
 pub mod Occurrences
+pub mod Rows
 pub mod Singles
+pub mod Takings

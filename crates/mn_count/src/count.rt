@@ -1,5 +1,6 @@
 //! What narrows a constraint that counts equal values.
 ghost use Rattle.std.specs.Prelude.{◌≡◌, IfOk, OnOk, true};
+ghost use Rattle.mn_model.specs.declared.constraint.Con.TheVariants as con;
 ghost use Rattle.mn_prop.specs.Contexts.{box_of, vars_of};
 ghost use Rattle.mn_prop.specs.Footings.{no_footing};
 ghost use Rattle.mn_prop.specs.Losses.{Unsupported};
@@ -8,8 +9,9 @@ ghost use Rattle.mn_prop.specs.Posts.{ClosedUnderLeaf, IsReadyToRun, beside};
 ghost use Rattle.mn_count.specs.Counts.{IsCounting, posted_of, rests_of};
 
 use crate::alldiff::Alldiff;
+use crate::dense::Dense;
 use crate::occurrence::{Amount, Occurrence};
-use mn_model::{Con, Instance, Term};
+use mn_model::{Con, Instance, Term, Terms};
 use mn_prop::{Ctx, Fail, ForwardCheck, Runner, Scoped};
 use std::alloc::{AllocError, Global};
 
@@ -18,6 +20,8 @@ use std::alloc::{AllocError, Global};
 pub enum Count<'a> {
     /// Places that all differ.
     Differ(Alldiff<'a>),
+    /// The same, where the values stand close together.
+    DifferDense(Dense<'a>),
     /// So many entries that are a value.
     Often(Occurrence<'a>),
     /// At most so many different values.
@@ -31,7 +35,7 @@ impl<'a> Count<'a> {
         ensures { IfOk result (λ k. posted_of k ≡ beside inst.now.tuples con.now) }
     {
         match con {
-            Con::Alldiff(v) => Ok(Count::Differ(Alldiff { v, inst })),
+            Con::Alldiff(v) => Count::differ(alloc, inst, v),
             Con::Occurrence(v, k, x) => Ok(Count::Often(Occurrence::new(
                 inst,
                 v,
@@ -55,14 +59,27 @@ impl<'a> Count<'a> {
         }
     }
 
+    // What narrows places that all differ.
+    fn differ(alloc: Global, inst: &'a Instance, v: &'a Terms) -> Result<Count<'a>, AllocError>
+        ensures { IfOk result (λ k. posted_of k ≡ beside inst.now.tuples (con.Alldiff v.now)) }
+    {
+        match Dense::build(alloc, Alldiff { v, inst })? {
+            Some(d) => Ok(Count::DifferDense(d)),
+            None => Ok(Count::Differ(Alldiff { v, inst })),
+        }
+    }
+
     // Takes values that aren't supported, or fails.
-    fn filter(&self, c: &mut Ctx) -> Result<(), Fail>
-        requires { IsReadyToRun (vars_of c.old) (posted_of self.now) }
-        ensures step { IsStep (Unsupported (posted_of self.now)) (ClosedUnderLeaf (vars_of c.old) (posted_of self.now)) c.old c.new result }
-        ensures settled { OnOk result (rests_of self.now ≡ true → ClosedUnderLeaf (vars_of c.old) (posted_of self.now) (box_of c.new)) }
+    fn filter(&mut self, c: &mut Ctx) -> Result<(), Fail>
+        requires { IsReadyToRun (vars_of c.old) (posted_of self.old) }
+        ensures posted { posted_of self.new ≡ posted_of self.old }
+        ensures rests { rests_of self.new ≡ rests_of self.old }
+        ensures step { IsStep (Unsupported (posted_of self.old)) (ClosedUnderLeaf (vars_of c.old) (posted_of self.old)) c.old c.new result }
+        ensures settled { OnOk result (rests_of self.old ≡ true → ClosedUnderLeaf (vars_of c.old) (posted_of self.old) (box_of c.new)) }
     {
         match self {
             Count::Differ(d) => d.filter(c),
+            Count::DifferDense(d) => d.filter(c),
             Count::Often(o) => o.filter(c),
             Count::Few(f) => f.filter(c),
         }
@@ -77,6 +94,7 @@ impl Scoped for Count<'_> {
     fn places(&self) -> usize {
         match self {
             Count::Differ(d) => d.places(),
+            Count::DifferDense(d) => d.places(),
             Count::Often(o) => o.places(),
             Count::Few(f) => f.places(),
         }
@@ -85,6 +103,7 @@ impl Scoped for Count<'_> {
     fn term(&self, i: usize) -> Term {
         match self {
             Count::Differ(d) => d.term(i),
+            Count::DifferDense(d) => d.term(i),
             Count::Often(o) => o.term(i),
             Count::Few(f) => f.term(i),
         }
@@ -96,7 +115,7 @@ impl Runner for Count<'_> {
 
     fn settles(&self) -> bool {
         match self {
-            Count::Differ(_) | Count::Often(_) | Count::Few(_) => false,
+            Count::Differ(_) | Count::DifferDense(_) | Count::Often(_) | Count::Few(_) => false,
         }
     }
 

@@ -2,7 +2,8 @@
 //! `nvalueleq`.
 //!
 //! A `Count` narrows the places of one such constraint, with the promises of a `Runner`. `alldiff` has level Fixed: a value goes
-//! from a place where another place has it alone. The three of occurrences have level
+//! from a place where another place has it alone. Where the declared values stand close together, a pass takes all of them out
+//! of the open places at once, and goes on until no more places have one value alone. The three of occurrences have level
 //! Arc: values go only where the value stands as often as it may, or can stand only as often as it has to. `nvalueleq` is
 //! checked forward.
 //!
@@ -13,9 +14,14 @@
 mod alldiff;
 mod changes;
 mod count;
+mod dense;
 mod occurrence;
+mod open;
+mod rounds;
+mod taken;
 
 pub use alldiff::Alldiff;
 pub use count::Count;
+pub use dense::Dense;
 pub use occurrence::{Amount, Occurrence};
 pub use std::alloc::AllocError as NoMemory;
