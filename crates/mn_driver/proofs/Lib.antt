@@ -12,3 +12,4 @@ pub mod Ending
 pub mod Dumping
 pub mod Stopping
 pub mod Limiting
+pub mod Fronts

@@ -2,6 +2,7 @@ pub mod Codes
 pub mod Counting
 pub mod Ends
 pub mod Explains
+pub mod Lists
 pub mod Loads
 pub mod Made
 pub mod Outputs

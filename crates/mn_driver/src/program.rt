@@ -11,6 +11,7 @@ ghost use Rattle.mn_driver.specs.Codes.{status_of, unflushed};
 ghost use Rattle.mn_driver.specs.Counting.{HasNone};
 ghost use Rattle.mn_driver.specs.Ends.{BreaksRule, IsReported, Ends, FailsToRead, FailsToWrite, HasLongText, IsRefusedFor, Prints, RunsOutOfMemory};
 ghost use Rattle.mn_driver.specs.Explains.{Answers, Dumps, Misuses, PutsText, Refuses, SaysMemory, Solves, Undumps};
+ghost use Rattle.mn_driver.specs.Lists.{LimitsCutShort, SearchesFindAll, SearchesImprove, SearchesList};
 ghost use Rattle.mn_driver.specs.Loads.{IsOfText};
 ghost use Rattle.mn_driver.specs.Made.{AreLimits, HasLimits};
 ghost use Rattle.mn_driver.specs.Outputs.{AddsLine, IsFaultless, input_of, output_of};
@@ -297,9 +298,16 @@ pub fn run<F: Files, O: Sink>(
         (output_of O.content O.faults out.old out.new) a.model
         → TextOf p (output_of O.content O.faults out.old out.new) result.status result.counts
         ⊎ (result.status ≡ Status.NoMemory)) }
-    // What the report of a lawful instance lists: each solution that is owed once, in the order of the search.
+    // What a whole search of a lawful instance finds. By the order of variables it is what is listed: each solution that is
+    // owed once, in the order of the search. By another choice it is all solutions, each once, or with an objective some that
+    // are each better than all before them, the last as good as any.
+    ensures in_order { SearchesList }
     ensures each_once { (p : Problem) → IsLawful p
         → AreDistinct (listed p) × HoldsInOrder (Precedes p) (listed p) }
+    ensures in_any_order { SearchesFindAll }
+    ensures improving { SearchesImprove }
+    // What the report has of it: its first visits, as many as the limits allow.
+    ensures limited { LimitsCutShort }
 
     // Complete: the whole report of the one instance of which the named file holds a text.
     ensures complete { result.status ≡ Status.Complete → Ask words.now.items
@@ -356,5 +364,9 @@ pub fn run<F: Files, O: Sink>(
     one_verdict();
     lawful_problems_are_fit();
     records_are_owed();
+    visits_are_there();
+    solutions_are_visited();
+    solutions_are_visited_once();
+    solutions_improve();
     finished(alloc, words, files, out)
 }

@@ -1,7 +1,10 @@
-use Rattle.std.proofs.Common.{map, string_bytes}
+use Rattle.std.proofs.Common.{map, refl, string_bytes}
+use Rattle.mn_order.specs.declared.choice.Choice.TheVariants.{Fixed}
+use Rattle.mn_search.specs.Visits.{all_visits}
 use Rattle.mn_driver.specs.Outputs.{input_of, output_of}
 use Rattle.mn_driver.specs.declared.status.Status.TheVariants.{Complete, AtSolutionLimit, AtNodeLimit, Printed, Refused, Usage, ReadFault, WriteFault, DumpTooLong, NoMemory}
 use Rattle.mn_driver.proofs.Clauses as clauses
+use Rattle.mn_driver.proofs.Fronts.{cut_short}
 use Rattle.mn_driver.proofs.program.run.Goals as goal
 
 pub returns-clause-complete : goal.returns-clause-complete
@@ -54,3 +57,15 @@ returns-clause-refuses g c = clauses.refuses (input_of g.F.Files.content g.F.Fil
 
 pub returns-clause-each_once : goal.returns-clause-each_once
 returns-clause-each_once g c = λ p lawful. (c.records_are_owed.ensures.distinct p (c.lawful_problems_are_fit.ensures.ascend p lawful), c.records_are_owed.ensures.ordered p (c.lawful_problems_are_fit.ensures.ascend p lawful))
+
+pub returns-clause-in_order : goal.returns-clause-in_order
+returns-clause-in_order g c = λ p lawful. c.solutions_are_visited.ensures.all p lawful (all_visits p Fixed) ((c.visits_are_there.ensures.all p lawful Fixed (all_visits p Fixed)).1 refl)
+
+pub returns-clause-in_any_order : goal.returns-clause-in_any_order
+returns-clause-in_any_order g c = λ p lawful none choice. c.solutions_are_visited_once.ensures.all p lawful none choice (all_visits p choice) ((c.visits_are_there.ensures.all p lawful choice (all_visits p choice)).1 refl)
+
+pub returns-clause-improving : goal.returns-clause-improving
+returns-clause-improving g c = λ p goal_is lawful has choice. c.solutions_improve.ensures.all p goal_is lawful has choice (all_visits p choice) ((c.visits_are_there.ensures.all p lawful choice (all_visits p choice)).1 refl)
+
+pub returns-clause-limited : goal.returns-clause-limited
+returns-clause-limited g c = λ plan p. cut_short plan p
