@@ -5,7 +5,6 @@ pub mod Explains
 pub mod Loads
 pub mod Outputs
 pub mod Owes
-pub mod Owing
 pub mod Report
 pub mod Reports
 pub mod Runs
