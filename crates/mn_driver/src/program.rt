@@ -34,6 +34,9 @@ use mn_printer::{PrintFault, print};
 use mn_report::{
     MEMORY_LINE, NO_MODEL_LINE, Outcome, READ_LINE, number_line, refused_line, usage_line,
 };
+use mn_search::{
+    solutions_are_visited, solutions_are_visited_once, solutions_improve, visits_are_there,
+};
 use std::alloc::{AllocError, Global};
 
 /// Writes a line that tells of a fault. Where that fails there is nothing left to say.

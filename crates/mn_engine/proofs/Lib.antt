@@ -1,3 +1,4 @@
+pub mod Beating
 pub mod Deciding
 pub mod Enclosing
 pub mod Rounding

@@ -1,9 +1,12 @@
 pub mod Alike
 pub mod Chosen
 pub mod Counting
+pub mod Cutting
 pub mod Filling
+pub mod Improving
 pub mod Leaving
 pub mod Limiting
+pub mod Owing
 pub mod Parting
 pub mod Pathing
 pub mod Placing

@@ -1,3 +1,4 @@
+pub mod Best
 pub mod Keeping
 pub mod Laws
 pub mod Left
