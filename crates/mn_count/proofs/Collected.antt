@@ -1,5 +1,5 @@
 -- Looking at the open places one by one, from the last on.
-use Rattle.std.proofs.Common.{◌≡◌, ℕ, ℤ, ◌+◌, ◌-◌, ◌<◌, ◌≤◌, ◌⊎◌, inl, inr, Ok, List, get_or, slice_get, Some, refl, sym, subst, ap, ◌∙◌, arith}
+use Rattle.std.proofs.Common.{◌≡◌, ℕ, ℤ, ◌+◌, ◌-◌, ◌<◌, ◌≤◌, ◌⊎◌, inl, inr, Ok, List, slice_get, refl, sym, subst, ap, ◌∙◌, arith}
 use Rattle.mn_model.specs.Decided.{Decided, decide_nat}
 use Rattle.mn_model.specs.declared.constraint.Term.{Term}
 use Rattle.mn_model.specs.declared.declaration.Tuples.{Tuples}

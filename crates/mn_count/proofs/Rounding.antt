@@ -1,10 +1,9 @@
 -- Rounds of taking values and of taking them out of all open places.
-use Rattle.std.proofs.Common.{◌≡◌, ℕ, ◌<◌, ℤ, false, List, length, Result, Ok, Err, IsErr, refl, sym, subst, ◌∙◌, arith}
+use Rattle.std.proofs.Common.{◌≡◌, ℕ, ◌<◌, ℤ, false, List, length, Result, Ok, Err, IsErr, refl, sym, subst, ◌∙◌}
 use Rattle.mn_model.specs.declared.constraint.Con.TheVariants as con
 use Rattle.mn_model.specs.declared.constraint.Term.{Term}
 use Rattle.mn_model.specs.declared.declaration.Tuples.{Tuples}
-use Rattle.mn_boxes.specs.Boxes.{Inside, IsBox}
-use Rattle.mn_boxes.specs.Sets.{Variable}
+use Rattle.mn_boxes.specs.Boxes.{IsBox}
 use Rattle.mn_boxes.specs.Values.{Values, members}
 use Rattle.mn_closure.specs.Closed.{LeafClosed}
 use Rattle.mn_prop.specs.Contexts.{Context, box_of, vars_of}

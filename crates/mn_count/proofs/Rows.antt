@@ -1,8 +1,8 @@
 -- A row of numbers from which one is taken out.
-use Rattle.std.proofs.Common.{◌≡◌, ◌≢◌, ℕ, ◌+◌, ◌-◌, ◌<◌, ◌≤◌, ◌⊎◌, inl, inr, get_or, set, refl, sym, ap, ◌∙◌, arith}
+use Rattle.std.proofs.Common.{◌≡◌, ◌≢◌, ℕ, ◌-◌, ◌<◌, ◌≤◌, ◌⊎◌, inl, inr, get_or, set, refl, sym, ap, ◌∙◌, arith}
 use Rattle.std.proofs.lemmas.List.{get_or-set_other, get_or-set_same}
 use Rattle.mn_model.specs.Decided.{Decided, decide_nat}
-use Rattle.mn_count.specs.Rows.{IsIn, IsRow, IsShrunk, Row, StandsIn, without}
+use Rattle.mn_count.specs.Rows.{IsIn, IsRow, IsShrunk, Row, without}
 
 module _ (r : Row) (is : IsRow r) (k : ℕ) (less : k < r.left) where
   here : get_or (set r.items k (get_or r.items (r.left - 1) 0)) k 0 ≡ get_or r.items (r.left - 1) 0

@@ -1,5 +1,5 @@
 -- What is known of the values that places have alone, as they are taken one by one, and then taken out of all open places.
-use Rattle.std.proofs.Common.{◌≡◌, ◌≢◌, ℕ, ◌+◌, ◌-◌, ◌<◌, ◌≤◌, ℤ, ◌⊎◌, inl, inr, Bool, true, false, not, ◌||◌, List, length, get_or, slice_get, Some, Result, Ok, Err, IsErr, refl, sym, subst, ap, ◌∙◌, arith, true≢false}
+use Rattle.std.proofs.Common.{◌≡◌, ◌≢◌, ℕ, ◌-◌, ◌<◌, ℤ, ◌⊎◌, inl, inr, Bool, true, false, not, ◌||◌, List, length, get_or, slice_get, Some, Result, refl, sym, subst, ap, ◌∙◌, arith, true≢false}
 use Rattle.std.proofs.lemmas.List.{length-set}
 use Rattle.std.proofs.lemmas.Option.{slice_get_within}
 use Rattle.std.specs.Ordering.{int_eq}
@@ -29,7 +29,7 @@ use Rattle.mn_prop.proofs.Stepping.{as_step, by_rule}
 use Rattle.mn_count.specs.Rows.{IsIn, IsRow, Row, StandsIn, without}
 use Rattle.mn_count.specs.Singles.{EachAsked}
 use Rattle.mn_count.specs.Takings.{AreFree, HasTaken, IsFreeAt, IsOpenAt, IsTakenBy, IsTaking}
-use Rattle.mn_count.proofs.Rows.{from_place, gone_out, kept_in, still_in}
+use Rattle.mn_count.proofs.Rows.{gone_out, kept_in, still_in}
 use Rattle.mn_count.proofs.Sifted.{FailsAt, sift_asked}
 use Rattle.mn_count.proofs.Spread.{alone_inside, fixed_asked, same_term, spread_closed}
 

@@ -1,6 +1,6 @@
-use Rattle.std.proofs.Common.{Ok, sym, subst, ◌∙◌, arith}
+use Rattle.std.proofs.Common.{Ok, subst, ◌∙◌, arith}
 use Rattle.mn_prop.specs.Contexts.{box_of, vars_of}
-use Rattle.mn_count.specs.Takings.{IsCollected, IsOpenAt}
+use Rattle.mn_count.specs.Takings.{IsCollected}
 use Rattle.mn_count.proofs.Rounding.{again, again_fails, done, ends, no_round, ready_now, stuck}
 use Rattle.mn_count.proofs.rounds.Rounds.run.Goals as goal
 
