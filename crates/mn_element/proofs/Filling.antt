@@ -1,6 +1,10 @@
 -- How the values of a place are put into a set of a stretch.
-use Rattle.std.proofs.Common.{◌≡◌, ◌↔◌, ℤ, pos, ◌+ℤ◌, ◌-ℤ◌, ◌<ℤ◌, ◌≤ℤ◌, ◌⊎◌, inl, inr, Bool, true, false, ◌||◌, IsTrue, List, Some, None, refl, sym, subst, ◌∙◌, arith, true≢false}
+use Rattle.std.proofs.Common.{◌≡◌, ◌↔◌, ℤ, pos, ◌+ℤ◌, ◌-ℤ◌, ◌<ℤ◌, ◌≤ℤ◌, ◌⊎◌, inl, inr, Bool, true, false, ◌||◌, IsTrue, List, Some, None, refl, sym, subst, ◌∙◌, arith, true≢false, [], ◌∷◌, filter, int_le, not, ◌&&◌, ap}
 use Rattle.std.proofs.lemmas.Int.{ints}
+use Rattle.mn_model.specs.Domain.{Has}
+use Rattle.mn_model.proofs.Filtered.{filter_has}
+use Rattle.mn_model.proofs.Ordered.{le_true}
+use Rattle.mn_boxes.specs.Sets.{least}
 use Rattle.std.specs.Ordering.{int_eq}
 use Rattle.mn_model.specs.declared.constraint.Term.{Term}
 use Rattle.mn_model.proofs.Stretches.{plus-int_gap}
@@ -9,7 +13,7 @@ use Rattle.mn_boxes.specs.Values.{IsCovered, Values, members}
 use Rattle.mn_domains.proofs.Filtered.{eq_so, eq_true}
 use Rattle.mn_prop.specs.Contexts.{IsGreatestAt, IsLeastAt}
 use Rattle.mn_element.specs.Gathers.{HasEndsOf, HasValuesOf}
-use Rattle.mn_element.specs.Stretches.{IsBetween, IsNextBefore, Spans}
+use Rattle.mn_element.specs.Stretches.{HasAllOf, IsBetween, IsNextBefore, Spans}
 use Rattle.mn_element.specs.declared.stretch.Stretch.{Stretch}
 
 -- a set that may have both ends may have all between them
@@ -141,3 +145,29 @@ has_values box y old cleared new ends none members_of only spans a = (λ e. to (
 
     between : PlaceHas box y a → IsBetween cleared.lo cleared.hi a
     between has = let at = spans a has in (subst (λ lo. lo ≤ℤ a) (sym ends.0) at.0, subst (λ hi. a ≤ℤ hi) (sym ends.1) at.1)
+
+-- where nothing is outside, all is in the set
+pub none_outside : (xs : List ℤ) (values : Values) (lo : ℤ) → None ≡ least (filter (λ x. int_le lo x && not (members values x)) xs) → ((a : ℤ) → Has xs a → lo ≤ℤ a) → (a : ℤ) → Has xs a → IsTrue (members values a)
+none_outside xs values lo none above a has = by (members values a) refl
+  where
+    p : ℤ → Bool
+    p x = int_le lo x && not (members values x)
+
+    empty : (ys : List ℤ) → None ≡ least ys → Has ys a → ⊥
+    empty [] e at = at
+    empty (y ∷ ys) e at = cc
+
+    passes : (b : Bool) → members values a ≡ b → b ≡ false → p a ≡ true
+    passes true is e = absurd (true≢false e)
+    passes false is e = ap (λ s. s && not (members values a)) (le_true lo a (above a has)) ∙ ap not is
+
+    by : (b : Bool) → members values a ≡ b → members values a ≡ true
+    by true is = is
+    by false is = absurd (empty (filter p xs) none (filter_has p xs a has (passes false is refl)))
+
+pub nothing_more : (box : List (List ℤ)) (t : Term) (old : Stretch) → HasAllOf box t old.set → (b : ℤ) → IsTrue (members old.set b) ↔ (IsTrue (members old.set b) ⊎ PlaceHas box t b)
+nothing_more box t old all b = (λ e. inl e, λ either. by either)
+  where
+    by : IsTrue (members old.set b) ⊎ PlaceHas box t b → IsTrue (members old.set b)
+    by (inl was) = was
+    by (inr has) = all b has

@@ -1,16 +1,19 @@
 //! Sets of the values of a stretch.
-ghost use Rattle.std.specs.Prelude.{◌≡◌, ◌↔◌, ◌⊎◌, ◌||◌, ◌≤ℤ◌, ℤ, IsTrue, false};
+ghost use Rattle.std.specs.Prelude.{◌<◌, length, ◌≡◌, ◌↔◌, ◌⊎◌, ◌||◌, ◌≤ℤ◌, ℤ, IsTrue, false};
 ghost use Rattle.std.specs.Ordering.{int_eq};
-ghost use Rattle.mn_model.specs.Domain.{IsValue};
+ghost use Rattle.mn_model.specs.Domain.{Has, IsValue};
+ghost use Rattle.mn_model.specs.Variable.{number_of};
+ghost use Rattle.mn_boxes.specs.Boxes.{set_of};
 ghost use Rattle.mn_model.specs.Lawful.{IsLawfulTerm};
 ghost use Rattle.mn_boxes.specs.Places.{PlaceHas};
 ghost use Rattle.mn_boxes.specs.Values.{IsCovered, members};
 ghost use Rattle.mn_closure.specs.Ready.{declared_sets};
 ghost use Rattle.mn_prop.specs.Contexts.{IsNamed, box_of, vars_of};
-ghost use Rattle.mn_element.specs.Stretches.{IsBetween, IsNextBefore, Spans};
+ghost use Rattle.mn_element.specs.Stretches.{HasAllOf, IsBetween, IsNextBefore, Spans};
 
 use mn_boxes::ValueSet;
-use mn_model::Term;
+use mn_domains::Doms;
+use mn_model::{Term, VarId};
 use mn_prop::Ctx;
 use std::alloc::{AllocError, Global};
 
@@ -90,9 +93,35 @@ impl Stretch {
         ensures only { (b : ℤ) → IsTrue (members self.new.set b) → IsTrue (members self.old.set b) ⊎ PlaceHas (box_of c.now) t b }
     {
         if self.spans(c, t) {
-            c.gather(t, &mut self.set);
+            if !self.has_all(c, t) {
+                c.gather(t, &mut self.set);
+            }
         } else {
             self.gather_some(c, t);
+        }
+    }
+
+    // Whether the set is seen to have all values of the place.
+    fn has_all(&self, c: &Ctx, t: Term) -> bool
+        requires named { IsNamed (vars_of c.now) t }
+        requires spans { Spans (box_of c.now) self.now.lo self.now.hi t }
+        ensures { IsTrue result → HasAllOf (box_of c.now) t self.now.set }
+    {
+        match t {
+            Term::Var(v) => self.has_all_of(c.doms(), v),
+            Term::Const(_) | Term::Not(_) => false,
+        }
+    }
+
+    // Whether it has all of the variable, none of which is below it.
+    fn has_all_of(&self, doms: &Doms, v: VarId) -> bool
+        requires within { number_of v < length doms.now.vars }
+        requires above { (a : ℤ) → Has (set_of doms.now.now.sets (number_of v)) a → self.now.lo ≤ℤ a }
+        ensures { IsTrue result → (a : ℤ) → Has (set_of doms.now.now.sets (number_of v)) a → IsTrue (members self.now.set a) }
+    {
+        match doms.next_outside(v, &self.set, self.lo) {
+            Some(_) => false,
+            None => true,
         }
     }
 
