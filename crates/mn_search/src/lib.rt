@@ -20,8 +20,8 @@ mod search;
 
 pub use laws::{
     left_parts_are_uncut, paths_are_ordered, solutions_are_visited, solutions_are_visited_once,
-    solutions_improve, visited_boxes_hold_assignments, visits_are_few, visits_are_there, visits_are_unique,
-    visits_have_boxes,
+    solutions_improve, visited_boxes_hold_assignments, visits_are_few, visits_are_there,
+    visits_are_unique, visits_have_boxes,
 };
 pub use search::{Event, Search};
 pub use std::alloc::AllocError as NoMemory;
