@@ -12,3 +12,7 @@ pub mod Rows
 pub mod Sifted
 pub mod Takings
 pub mod Turning
+pub mod Apart
+pub mod Joined
+pub mod OpenPairs
+pub mod Vectors

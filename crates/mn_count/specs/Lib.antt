@@ -1,4 +1,5 @@
 pub mod Counts
+pub mod Distances
 pub mod Occurrences
 pub mod Rows
 pub mod Singles

@@ -10,6 +10,7 @@ ghost use Rattle.mn_count.specs.Counts.{IsCounting, posted_of, rests_of};
 
 use crate::alldiff::Alldiff;
 use crate::dense::Dense;
+use crate::hamming::Hamming;
 use crate::occurrence::{Amount, Occurrence};
 use mn_model::{Con, Instance, Term, Terms};
 use mn_prop::{Ctx, Fail, ForwardCheck, Runner, Scoped};
@@ -24,6 +25,8 @@ pub enum Count<'a> {
     DifferDense(Dense<'a>),
     /// So many entries that are a value.
     Often(Occurrence<'a>),
+    /// Two vectors that differ at so many places.
+    Distant(Hamming<'a>),
     /// At most so many different values.
     Few(ForwardCheck<'a>),
 }
@@ -54,6 +57,12 @@ impl<'a> Count<'a> {
                 *k,
                 Amount::AtLeast(*least),
             ))),
+            Con::Hamming(v, w, least) => Ok(Count::Distant(Hamming {
+                v,
+                w,
+                least: *least,
+                inst,
+            })),
             Con::Nvalueleq(_, _) => Ok(Count::Few(ForwardCheck::build(alloc, inst, con)?)),
             _ => unreachable!(),
         }
@@ -81,6 +90,7 @@ impl<'a> Count<'a> {
             Count::Differ(d) => d.filter(c),
             Count::DifferDense(d) => d.filter(c),
             Count::Often(o) => o.filter(c),
+            Count::Distant(h) => h.filter(c),
             Count::Few(f) => f.filter(c),
         }
     }
@@ -96,6 +106,7 @@ impl Scoped for Count<'_> {
             Count::Differ(d) => d.places(),
             Count::DifferDense(d) => d.places(),
             Count::Often(o) => o.places(),
+            Count::Distant(h) => h.places(),
             Count::Few(f) => f.places(),
         }
     }
@@ -105,6 +116,7 @@ impl Scoped for Count<'_> {
             Count::Differ(d) => d.term(i),
             Count::DifferDense(d) => d.term(i),
             Count::Often(o) => o.term(i),
+            Count::Distant(h) => h.term(i),
             Count::Few(f) => f.term(i),
         }
     }
@@ -115,7 +127,11 @@ impl Runner for Count<'_> {
 
     fn settles(&self) -> bool {
         match self {
-            Count::Differ(_) | Count::DifferDense(_) | Count::Often(_) | Count::Few(_) => false,
+            Count::Differ(_)
+            | Count::DifferDense(_)
+            | Count::Often(_)
+            | Count::Distant(_)
+            | Count::Few(_) => false,
         }
     }
 

@@ -1,0 +1,12 @@
+pub mod Bounding
+pub mod Choosing
+pub mod Computing
+pub mod Declaring
+pub mod Distances
+pub mod Finding
+pub mod Others
+pub mod Pruned
+pub mod Sharing
+pub mod Sifting
+pub mod Spreading
+pub mod Told

@@ -1,0 +1,6 @@
+pub mod Keeping
+pub mod Looking
+pub mod Marking
+pub mod Rooms
+pub mod Sifting
+pub mod Supporting
