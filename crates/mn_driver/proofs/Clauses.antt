@@ -15,7 +15,8 @@ use Rattle.mn_driver.specs.Codes.{status_of}
 use Rattle.mn_driver.specs.Made.{outcome_of}
 use Rattle.mn_driver.specs.Outputs.{Input, Output, IsFaultless}
 use Rattle.mn_driver.specs.Owes.{IsModelStatus, ReportsAll, TextOf, Yields}
-use Rattle.mn_driver.specs.Runs.{Tells, HoldsModel, HoldsRefused, IsAbsent, IsTheModel, IsTheRefused}
+use Rattle.mn_driver.specs.Runs.{Tells, HoldsModel, HoldsRefused, HoldsRefusedText, HoldsText, IsAbsent, IsTheModel, IsTheRefused}
+use Rattle.mn_driver.specs.Sources.{Origin, Named, Made}
 use Rattle.mn_driver.specs.Words.{Asked, asked, asked_unless, plan_of}
 use Rattle.mn_driver.specs.Written.{WritesReport}
 use Rattle.mn_driver.specs.declared.plan.Plan.{Plan}
@@ -39,16 +40,38 @@ told_so None files e holds = cc
 told_so (Some fs) files e holds = holds
 
 module _ (told : Option FileMap) (name : List ℕ) where
-  model_not_refused : OneVerdict → (p : Problem) (why : Refusal) (line : ℕ) → HoldsModel told name p → HoldsRefused told name why line → ⊥
-  model_not_refused one p why line model refused = never_both one model.text p why model.reads (subst (λ text. IsRefused text why) (sym (same_told told name model.text refused.text model.there refused.there)) refused.refused)
+  text_not_refused : OneVerdict → (p : Problem) (why : Refusal) (line : ℕ) → HoldsText told name p → HoldsRefusedText told name why line → ⊥
+  text_not_refused one p why line model refused = never_both one model.text p why model.reads (subst (λ text. IsRefused text why) (sym (same_told told name model.text refused.text model.there refused.there)) refused.refused)
 
-  one_refusal : OneVerdict → (why other : Refusal) (line more : ℕ) → HoldsRefused told name why line → HoldsRefused told name other more → other ≡ why
-  one_refusal one why other line more refused also = one_refusal_of one refused.text why other refused.refused (subst (λ text. IsRefused text other) (sym (same_told told name refused.text also.text refused.there also.there)) also.refused)
+  one_refused_text : OneVerdict → (why other : Refusal) (line more : ℕ) → HoldsRefusedText told name why line → HoldsRefusedText told name other more → other ≡ why
+  one_refused_text one why other line more refused also = one_refusal_of one refused.text why other refused.refused (subst (λ text. IsRefused text other) (sym (same_told told name refused.text also.text refused.there also.there)) also.refused)
 
-  absent_not_told : IsAbsent told name → (text : List ℕ) → Tells told name text → ⊥
+  absent_not_told : IsAbsent told (Named name) → (text : List ℕ) → Tells told name text → ⊥
   absent_not_told (files, some, absent) text (more, also, here) =
       let same : files ≡ more = cc in
       let none : None ≡ Some text = sym absent ∙ (ap (λ fs. file_at fs name) same ∙ here) in cc
+
+-- so of each origin, since a generated model is neither refused nor absent
+module _ (told : Option FileMap) where
+  model_not_refused : OneVerdict → (origin : Origin) (p : Problem) (why : Refusal) (line : ℕ) → HoldsModel told origin p → IsTheRefused told origin why line → ⊥
+  model_not_refused one (Named name) p why line holds refused = text_not_refused told name one p why line holds (told_so told holds.there.0 holds.there.1 refused)
+  model_not_refused one (Made wanted) p why line holds refused = refused
+
+  refused_not_model : OneVerdict → (origin : Origin) (p : Problem) (why : Refusal) (line : ℕ) → IsTheModel told origin p → HoldsRefused told origin why line → ⊥
+  refused_not_model one (Named name) p why line is refused = text_not_refused told name one p why line (told_so told refused.there.0 refused.there.1 is.held) refused
+  refused_not_model one (Made wanted) p why line is refused = refused
+
+  one_refusal : OneVerdict → (origin : Origin) (why other : Refusal) (line more : ℕ) → HoldsRefused told origin why line → IsTheRefused told origin other more → other ≡ why
+  one_refusal one (Named name) why other line more refused also = one_refused_text told name one why other line more refused (told_so told refused.there.0 refused.there.1 also)
+  one_refusal one (Made wanted) why other line more refused also = absurd refused
+
+  absent_not_model : (origin : Origin) (p : Problem) → IsAbsent told origin → IsTheModel told origin p → ⊥
+  absent_not_model (Named name) p none is = let held = told_so told none.0 none.1 is.held in absent_not_told told name none held.text held.there
+  absent_not_model (Made wanted) p none is = none
+
+  absent_not_refused : (origin : Origin) (why : Refusal) (line : ℕ) → IsAbsent told origin → IsTheRefused told origin why line → ⊥
+  absent_not_refused (Named name) why line none is = let held = told_so told none.0 none.1 is in absent_not_told told name none held.text held.there
+  absent_not_refused (Made wanted) why line none is = none
 
 -- 2. Words
 asked_so : (P : Asked → Type 0) (asks : Option Asked) (a : Asked) → asks ≡ Some a → IsSomeAnd asks P → P a
@@ -64,9 +87,9 @@ for_rule P None f = tt
 for_rule P (Some rule) f = f rule refl
 
 -- words that break a rule ask for nothing
-asks_nothing : (broken : Option Rule) (name : Option (List ℕ)) (words : List (List ℕ)) (rule : Rule) → broken ≡ Some rule → asked_unless broken name words ≡ None
-asks_nothing None name words rule e = cc
-asks_nothing (Some other) name words rule e = refl
+asks_nothing : (broken : Option Rule) (origin : Option Origin) (words : List (List ℕ)) (rule : Rule) → broken ≡ Some rule → asked_unless broken origin words ≡ None
+asks_nothing None origin words rule e = cc
+asks_nothing (Some other) origin words rule e = refl
 
 not_both : (asks : Option Asked) (a : Asked) → asks ≡ Some a → asks ≡ None → ⊥
 not_both asks a some none = let both : None ≡ Some a = sym none ∙ some in cc
@@ -152,7 +175,7 @@ module _ (i : Input) (words : List (List ℕ)) (o : Output) (status : Status) (c
     -- a model
     module _ (one : OneVerdict) (p : Problem) (holds : HoldsModel i.told a.model p) where
       not_refused : (why : Refusal) → IsRefusedFor why i.told o counts a → ⊥
-      not_refused why is = model_not_refused i.told a.model one p why is.place holds (told_so i.told holds.there.0 holds.there.1 is.is)
+      not_refused why is = model_not_refused i.told one a.model p why is.place holds is.is
 
       model_status : Ends i words o status counts → IsModelStatus a.redump (plan_of a p.goal) p status
       model_status (reports of s is) =
@@ -235,11 +258,11 @@ module _ (i : Input) (words : List (List ℕ)) (o : Output) (status : Status) (c
   pub refuses : OneVerdict → IfSome (asked words) (λ a. (why : Refusal) (line : ℕ) → HoldsRefused i.told a.model why line → Yields status (Refused why))
   refuses one = for_asked (λ a. (why : Refusal) (line : ℕ) → HoldsRefused i.told a.model why line → Yields status (Refused why)) (asked words)
       (λ a asks why line refused. yields a asks (Refused why)
-      (λ p is. model_not_refused i.told a.model one p why line (told_so i.told refused.there.0 refused.there.1 is.held) refused)
-      (λ other more held. ap Refused (one_refusal i.told a.model one why other line more refused (told_so i.told refused.there.0 refused.there.1 held))) ends)
+      (λ p is. refused_not_model i.told one a.model p why line is refused)
+      (λ other more held. ap Refused (one_refusal i.told one a.model why other line more refused held)) ends)
 
   pub absent : IfSome (asked words) (λ a. IsAbsent i.told a.model → Yields status ReadFault)
   absent = for_asked (λ a. IsAbsent i.told a.model → Yields status ReadFault) (asked words)
       (λ a asks none. yields a asks ReadFault
-      (λ p is. let held = told_so i.told none.0 none.1 is.held in absent_not_told i.told a.model none held.text held.there)
-      (λ why line is. let held = told_so i.told none.0 none.1 is in absurd (absent_not_told i.told a.model none held.text held.there)) ends)
+      (λ p is. absent_not_model i.told a.model p none is)
+      (λ why line is. absurd (absent_not_refused i.told a.model why line none is)) ends)

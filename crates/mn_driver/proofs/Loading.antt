@@ -15,7 +15,8 @@ use Rattle.mn_outside.specs.declared.helpers.FetchFault.TheVariants as faults
 use Rattle.mn_driver.specs.Loads.{Unloads, unfetched, unread}
 use Rattle.mn_language.specs.Texts.{IsRefused, Reads}
 use Rattle.mn_report.specs.Lines.{place_of}
-use Rattle.mn_driver.specs.Runs.{Tells, HoldsModel, HoldsRefused, IsTheModel, IsTheRefused, line_at}
+use Rattle.mn_driver.specs.Runs.{Tells, HoldsRefusedText, HoldsText, IsTheModel, IsTheRefused, line_at}
+use Rattle.mn_driver.specs.Sources.{Named}
 use Rattle.mn_driver.proofs.Verdicts.{OneInstance, long_is_refused}
 
 -- a named file that is told has the bytes that were fetched
@@ -43,41 +44,41 @@ map_some None P Q f p = tt
 map_some (Some x) P Q f p = f p
 
 -- the text was read
-pub loaded : OneInstance → (told : Option FileMap) (name bytes : List ℕ) (p : Problem) → IsLawful p → IsFileAt told name bytes → Reads bytes p → IsTheModel told name p
+pub loaded : OneInstance → (told : Option FileMap) (name bytes : List ℕ) (p : Problem) → IsLawful p → IsFileAt told name bytes → Reads bytes p → IsTheModel told (Named name) p
 loaded one told name bytes p lawful is reads = record {
   lawful = lawful;
-  held = map_some told (Tells told name bytes) (HoldsModel told name p) (λ there. record { text = bytes; there = there; reads = reads }) (tells told name bytes is);
+  held = map_some told (Tells told name bytes) (HoldsText told name p) (λ there. record { text = bytes; there = there; reads = reads }) (tells told name bytes is);
   only = λ r held. one bytes r p (subst (λ text. Reads text r) (sym (same_text told name bytes held.text is held.there)) held.reads) reads;
 }
 
 -- the text was refused
-pub refused : (told : Option FileMap) (name bytes : List ℕ) (why : Refusal) (line : ℕ) → IsFileAt told name bytes → IsRefused bytes why → line ≡ line_at bytes (place_of why) → IsTheRefused told name why line
+pub refused : (told : Option FileMap) (name bytes : List ℕ) (why : Refusal) (line : ℕ) → IsFileAt told name bytes → IsRefused bytes why → line ≡ line_at bytes (place_of why) → IsTheRefused told (Named name) why line
 refused told name bytes why line is refused_so at =
-    map_some told (Tells told name bytes) (HoldsRefused told name why line) (λ there. record { text = bytes; there = there; refused = refused_so; line_is = at }) (tells told name bytes is)
+    map_some told (Tells told name bytes) (HoldsRefusedText told name why line) (λ there. record { text = bytes; there = there; refused = refused_so; line_is = at }) (tells told name bytes is)
 
 -- it is too long
 longer : (files : FileMap) (name : List ℕ) (lines : ℕ) (found : Option (List ℕ)) → file_at files name ≡ found → IsSomeAnd found (λ file. (TEXT_BYTES < length file) × (lines ≡ line_ends (take TEXT_BYTES file)))
-    → HoldsRefused (Some files) name (Limit Text TEXT_BYTES) (lines + 1)
+    → HoldsRefusedText (Some files) name (Limit Text TEXT_BYTES) (lines + 1)
 longer files name lines None e is = absurd is
 longer files name lines (Some file) e is = record { text = file; there = (files, refl, e); refused = long_is_refused file is.0; line_is = ap (λ n. n + 1) is.1 }
 
-pub too_long : (told : Option FileMap) (name : List ℕ) (lines : ℕ) → IsLongerFile told name TEXT_BYTES lines → IsTheRefused told name (Limit Text TEXT_BYTES) (lines + 1)
+pub too_long : (told : Option FileMap) (name : List ℕ) (lines : ℕ) → IsLongerFile told name TEXT_BYTES lines → IsTheRefused told (Named name) (Limit Text TEXT_BYTES) (lines + 1)
 too_long None name lines is = tt
 too_long (Some files) name lines is = longer files name lines (file_at files name) refl is
 
 -- why it wasn't fetched
-pub faulted : (told : Option FileMap) (name : List ℕ) (fault : FetchFault) → TellsLength told name TEXT_BYTES fault → Unloads told name (unfetched fault)
+pub faulted : (told : Option FileMap) (name : List ℕ) (fault : FetchFault) → TellsLength told name TEXT_BYTES fault → Unloads told (Named name) (unfetched fault)
 faulted told name faults.Failed tells = tt
 faulted told name (faults.TooLong lines) tells = too_long told name lines tells.1
 faulted told name faults.NoMemory tells = tt
 
 -- why it wasn't read
 module _ (told : Option FileMap) (name bytes : List ℕ) (is : IsFileAt told name bytes) where
-  of_text : (why : Refusal) → (why ≡ refusals.NoMemory → ⊥) → (why ≡ refusals.NoMemory) ⊎ IsRefused bytes why → IsTheRefused told name why (line_at bytes (place_of why))
+  of_text : (why : Refusal) → (why ≡ refusals.NoMemory → ⊥) → (why ≡ refusals.NoMemory) ⊎ IsRefused bytes why → IsTheRefused told (Named name) why (line_at bytes (place_of why))
   of_text why other (inl memory) = absurd (other memory)
   of_text why other (inr so) = refused told name bytes why (line_at bytes (place_of why)) is so refl
 
-  pub unread_so : (why : Refusal) → (why ≡ refusals.NoMemory) ⊎ IsRefused bytes why → Unloads told name (unread why bytes)
+  pub unread_so : (why : Refusal) → (why ≡ refusals.NoMemory) ⊎ IsRefused bytes why → Unloads told (Named name) (unread why bytes)
   unread_so refusals.NoMemory so = tt
   unread_so (refusals.Lex at) so = of_text (refusals.Lex at) (λ e. cc) so
   unread_so (refusals.NumberRange at) so = of_text (refusals.NumberRange at) (λ e. cc) so

@@ -10,6 +10,7 @@ pub mod Owes
 pub mod Report
 pub mod Reports
 pub mod Runs
+pub mod Sources
 pub mod Stops
 pub mod Turns
 pub mod Words

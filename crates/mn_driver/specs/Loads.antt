@@ -1,4 +1,4 @@
--- Why no instance came of the named file.
+-- Why no instance came of the named file, or of the rule of a generated model.
 use Rattle.std.specs.Prelude.{◌≢◌, ℕ, ◌+◌, ◌≤◌, List, Option}
 use Rattle.mn_model.specs.declared.refusal.Refusal.{Refusal}
 use Rattle.mn_model.specs.declared.refusal.Refusal.TheVariants as refusals
@@ -9,6 +9,7 @@ use Rattle.mn_outside.specs.declared.helpers.FetchFault.{FetchFault}
 use Rattle.mn_outside.specs.declared.helpers.FetchFault.TheVariants as faults
 use Rattle.mn_report.specs.Lines.{place_of}
 use Rattle.mn_driver.specs.Runs.{IsTheRefused, line_at}
+use Rattle.mn_driver.specs.Sources.{Origin}
 use Rattle.mn_driver.specs.declared.load.Unloaded.{Unloaded}
 use Rattle.mn_driver.specs.declared.load.Unloaded.TheVariants.{Failed, Refused, NoMemory}
 
@@ -33,7 +34,7 @@ unread refusals.NoMemory text = NoMemory
 unread why text = Refused why (line_at text (place_of why))
 
 -- what the named file holds where it was refused
-abbrev pub Unloads : Option FileMap → List ℕ → Unloaded → Type 0
-Unloads told name Failed = Unit {0}
-Unloads told name (Refused why line) = IsTheRefused told name why line
-Unloads told name NoMemory = Unit {0}
+abbrev pub Unloads : Option FileMap → Origin → Unloaded → Type 0
+Unloads told origin Failed = Unit {0}
+Unloads told origin (Refused why line) = IsTheRefused told origin why line
+Unloads told origin NoMemory = Unit {0}

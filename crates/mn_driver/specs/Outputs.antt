@@ -2,6 +2,7 @@
 use Rattle.std.specs.Prelude.{◌≡◌, ℕ, ◌⊎◌, List, ◌++◌, Option}
 use Rattle.mn_outside.specs.Content.{FileMap, with_bytes}
 use Rattle.mn_outside.specs.Faults.{HasRisen}
+use Rattle.mn_driver.specs.Sources.{Origin, Named, Made}
 use Rattle.mn_driver.specs.Written.{IsFrontOf}
 
 -- what the files told when the run began, and how often reading each name had failed then and has failed now
@@ -14,9 +15,10 @@ pub record Input : Type 0 where
 abbrev pub input_of : {S : Type 0} → (S → Option FileMap) → (S → List ℕ → ℕ) → S → S → Input
 input_of content reading old new = record { told = content old; unread_before = reading old; unread_after = reading new }
 
--- reading the name failed in this run
-abbrev pub IsUnread : Input → List ℕ → Type 0
-IsUnread i name = HasRisen (i.unread_before name) (i.unread_after name)
+-- reading the named file failed in this run; for a generated model none is read
+abbrev pub IsUnread : Input → Origin → Type 0
+IsUnread i (Named name) = HasRisen (i.unread_before name) (i.unread_after name)
+IsUnread i (Made wanted) = ⊥
 
 -- what the output told of its content before and tells now, and how often it had failed then and has failed now
 pub record Output : Type 0 where
@@ -41,7 +43,7 @@ Adds o bytes = o.after ≡ with_bytes o.before bytes
 abbrev pub AddsLine : Output → List ℕ → List ℕ → Type 0
 AddsLine o bytes line = Adds o (bytes ++ line) ⊎ (HasFailed o × ((part : List ℕ) × IsFrontOf part line × Adds o (bytes ++ part)))
 
--- neither reading the name nor the output failed in this run
-pub record IsFaultless (i : Input) (o : Output) (name : List ℕ) : Type 0 where
-  pub read : IsUnread i name → ⊥
+-- neither reading the named file nor the output failed in this run
+pub record IsFaultless (i : Input) (o : Output) (origin : Origin) : Type 0 where
+  pub read : IsUnread i origin → ⊥
   pub written : HasFailed o → ⊥

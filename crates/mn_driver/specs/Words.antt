@@ -2,18 +2,19 @@
 use Rattle.std.specs.Prelude.{ℕ, Bool, true, false, not, List, map, Option, Some, None, IfSome, IsSomeAnd, String, string_bytes}
 use Rattle.mn_model.specs.declared.search.Goal.{Goal}
 use Rattle.mn_order.specs.declared.choice.Choice.{Choice}
-use Rattle.mn_options.specs.Meant.{choice_of, limit_of, model_name}
+use Rattle.mn_options.specs.Meant.{choice_of, limit_of, model_name, wanted_of}
 use Rattle.mn_options.specs.Rules.{asks_for, first_broken}
 use Rattle.mn_options.specs.Words.{words_of}
 use Rattle.mn_options.specs.declared.table.CommandOption.TheVariants.{FindAllSols, NodeLimit, NoPrintSols, Redump, SolLimit}
 use Rattle.mn_options.specs.declared.usage.Usage.{Usage}
+use Rattle.mn_driver.specs.Sources.{Origin, origin_of, origin_told}
 use Rattle.mn_driver.specs.declared.plan.Plan.{Plan}
 use Rattle.mn_driver.specs.declared.request.Request.{Request}
 
--- the model that lawful words name, whether its text is written in place of its solutions, whether those are printed and
+-- where the model that lawful words ask for comes from, whether its text is written in place of its solutions, whether those are printed and
 -- whether all are looked for, the limits, and how the variable of a branching is chosen
 pub record Asked : Type 0 where
-  pub model : List ℕ
+  pub model : Origin
   pub redump : Bool
   pub print_sols : Bool
   pub find_all : Bool
@@ -34,7 +35,7 @@ abbrev pub plan_of : Asked → Option Goal → Plan
 plan_of a goal = record { shown = a.print_sols; choice = a.choice; node_limit = a.node_limit; solution_limit = solution_limit a.sol_limit a.find_all goal }
 
 -- words that break a rule ask for nothing
-abbrev pub asked_unless : Option Usage → Option (List ℕ) → List (List ℕ) → Option Asked
+abbrev pub asked_unless : Option Usage → Option Origin → List (List ℕ) → Option Asked
 asked_unless None (Some model) words = Some (record {
   model = model;
   redump = asks_for Redump (words_of words);
@@ -47,12 +48,12 @@ asked_unless None (Some model) words = Some (record {
 asked_unless _ _ words = None
 
 abbrev pub asked : List (List ℕ) → Option Asked
-asked words = asked_unless (first_broken words) (model_name words) words
+asked words = asked_unless (first_broken words) (origin_told (model_name words) (wanted_of (words_of words))) words
 
 -- the same as it is handed on
 abbrev pub asked_of : Request → Asked
 asked_of request = record {
-  model = string_bytes request.model;
+  model = origin_of request.model;
   redump = request.redump;
   print_sols = request.print_sols;
   find_all = request.find_all;

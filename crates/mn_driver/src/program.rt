@@ -20,7 +20,7 @@ ghost use Rattle.mn_driver.specs.Report.{usage_line};
 ghost use Rattle.mn_driver.specs.Runs.{HoldsModel, HoldsRefused, IsAbsent};
 ghost use Rattle.mn_driver.specs.Words.{Ask, WhereAsked, asked_by, asked_of, broken_by, plan_of};
 
-use crate::load::{Unloaded, load};
+use crate::load::{Unloaded, obtain};
 use crate::plan::Plan;
 use crate::request::{Request, requested};
 use crate::solve::{Stop, solve};
@@ -242,7 +242,7 @@ fn unfinished<F: Files, O: Sink>(
         Ok(request) => request,
         Err(rule) => return write_usage(alloc, rule, out),
     };
-    match load(alloc, files, request.model.as_str()) {
+    match obtain(alloc, files, &request.model) {
         Ok(inst) => write_answer(alloc, &inst, &request, out),
         Err(why) => write_refusal(alloc, why, out),
     }

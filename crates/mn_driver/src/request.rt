@@ -1,20 +1,30 @@
 //! What the words of the command line ask for.
-ghost use Rattle.std.specs.Prelude.{◌≡◌, ◌⊎◌, encode_utf8_all, map, IfErr, IfOk, Some, string_bytes};
+ghost use Rattle.std.specs.Prelude.{◌≡◌, ◌⊎◌, encode_utf8_all, map, option_map, IfErr, IfOk, IsSome, None, Some, string_bytes};
 ghost use Rattle.mn_options.specs.Rules.{first_broken};
 ghost use Rattle.mn_driver.specs.Made.{AreLimits};
+ghost use Rattle.mn_driver.specs.Sources.{HasSize, origin_of, origin_told};
 ghost use Rattle.mn_driver.specs.Words.{asked, asked_of, plan_of, solution_limit};
 
 use crate::plan::Plan;
 use mn_model::Goal;
-use mn_options::{Usage, parse};
+use mn_options::{Options, Usage, Wanted, parse};
 use mn_order::Choice;
 use std::alloc::{AllocError, Global};
+
+/// Where a model comes from.
+#[derive(Drop)]
+pub enum Source {
+    /// From the file of that name.
+    Named(String),
+    /// It is generated.
+    Made(Wanted),
+}
 
 /// What lawful words ask for.
 #[derive(Drop)]
 pub struct Request {
-    /// The name of the model.
-    pub model: String,
+    /// Where the model comes from.
+    pub model: Source,
     /// Whether its text is written in place of its solutions.
     pub redump: bool,
     /// Whether its solutions are printed.
@@ -64,16 +74,27 @@ fn string_of(alloc: Global, chars: &[char]) -> Result<String, AllocError>
     Ok(text)
 }
 
+/// Where the model of these options comes from.
+fn source_of(alloc: Global, options: &Options) -> Result<Source, AllocError>
+    requires { (IsSome options.now.model × (options.now.generate ≡ None)) ⊎ ((options.now.model ≡ None) × IsSome options.now.generate) }
+    ensures { IfOk result (λ source. origin_told (option_map encode_utf8_all options.now.model) options.now.generate ≡ Some (origin_of source)) }
+{
+    match &options.model {
+        Some(name) => Ok(Source::Named(string_of(alloc, name.as_slice())?)),
+        None => Ok(Source::Made(options.generate.unwrap())),
+    }
+}
+
 /// What the words ask for, or the rule that they break first.
 pub fn requested(alloc: Global, words: &Vec<String>) -> Result<Request, Usage>
     ensures asks { IfOk result (λ request. asked (map string_bytes words.now.items) ≡ Some (asked_of request)) }
+    ensures size { IfOk result (λ request. HasSize (origin_of request.model)) }
     ensures limits { IfOk result (λ request. AreLimits request.sol_limit request.node_limit) }
     ensures broken { IfErr result (λ rule. (first_broken (map string_bytes words.now.items) ≡ Some rule) ⊎ (rule ≡ Usage.NoMemory)) }
 {
     let options = parse(alloc, words)?;
-    let name = options.model.as_ref().unwrap();
     Ok(Request {
-        model: string_of(alloc, name.as_slice())?,
+        model: source_of(alloc, &options)?,
         redump: options.redump,
         print_sols: options.print_sols,
         find_all: options.find_all,

@@ -1,11 +1,11 @@
--- What words that break no rule have in common.
-use Rattle.std.proofs.Common.{◌≡◌, ℕ, zero, suc, ◌+◌, ◌<◌, ◌==◌, Bool, true, false, List, [], ◌∷◌, ◌++◌, length, map, drop, get_or, add-one, append-nil, append_assoc, Option, Some, None, IsSome, refl, ap, cond, chars, option_map, arith}
+-- The name of a model that words name.
+use Rattle.std.proofs.Common.{◌≡◌, ℕ, zero, suc, ◌+◌, ◌<◌, Bool, true, false, List, [], ◌∷◌, length, map, drop, get_or, add-one, Option, Some, None, IsSome, refl, ap, ◌∙◌, cond, chars, option_map, arith}
 use Rattle.std.specs.Option.{option_or}
 use Rattle.mn_options.specs.Meant.{model_name, named_by}
-use Rattle.mn_options.specs.Rules.{broken_by, first_broken, first_broken_behind, is_model, names_model}
-use Rattle.mn_options.specs.Words.{wanted_behind, word_at, words_behind, words_of}
-use Rattle.mn_options.specs.declared.table.CommandOption.{CommandOption}
+use Rattle.mn_options.specs.Rules.{is_model, names_model}
+use Rattle.mn_options.specs.Words.{awaited_behind, word_at, words_behind, words_of}
 use Rattle.mn_options.specs.declared.usage.Usage.TheVariants.{NoModel}
+use Rattle.mn_options.specs.declared.words.Awaited.{Awaited}
 use Rattle.mn_options.specs.declared.words.Word.{Word}
 
 -- neither is there where the first or else the second isn't
@@ -17,18 +17,12 @@ pub is_named : (named : Bool) → (cond named None (Some NoModel)) ≡ None → 
 is_named true e = refl
 is_named false e = cc
 
--- words that break no rule name a model
-pub model_is_named : (before words : List Word) → first_broken_behind before words ≡ None → names_model (before ++ words) ≡ true
-model_is_named before [] e = rw append-nil (is_named (names_model before) e)
-model_is_named before (word ∷ words) e =
-    rw append_assoc at (model_is_named (before ++ word ∷ []) words (neither (broken_by before word) (first_broken_behind (before ++ word ∷ []) words) e))
-
 -- each text is one word
-pub length-words : (wanted : Option CommandOption) (texts : List (List ℕ)) → length (words_behind wanted texts) ≡ length texts
-length-words wanted [] = refl
-length-words wanted (text ∷ texts) = ap suc (length-words (wanted_behind (word_at wanted text (length texts == 0))) texts)
+pub length-words : (value : Option Awaited) (texts : List (List ℕ)) → length (words_behind value texts) ≡ length texts
+length-words value [] = refl
+length-words value (text ∷ texts) = ap suc (length-words (awaited_behind (word_at value text (length texts))) texts)
 
--- and that model has a name
+-- the model that words name has a name, and there is none where they name none
 pub model_has_name : (words : List Word) (texts : List (List ℕ)) → length words ≡ length texts → names_model words ≡ true → IsSome (named_by words texts)
 model_has_name [] texts same e = cc
 model_has_name (word ∷ words) [] same e = absurd (omega arith)
@@ -42,9 +36,20 @@ text_is_some : (name : Option (List ℕ)) → IsSome name → IsSome (option_map
 text_is_some (Some name) e = refl
 text_is_some None e = cc
 
--- so its text is there
-pub lawful_text : (words : List (List ℕ)) (text : Option (List ℕ)) → first_broken words ≡ None → text ≡ option_map chars (model_name words) → IsSome text
-lawful_text words text kept is = rw is (text_is_some (model_name words) (model_has_name (words_of words) words (length-words None words) (model_is_named [] (words_of words) kept)))
+pub named_text : (words : List (List ℕ)) (text : Option (List ℕ)) → names_model (words_of words) ≡ true → text ≡ option_map chars (model_name words) → IsSome text
+named_text words text named is = rw is (text_is_some (model_name words) (model_has_name (words_of words) words (length-words None words) named))
+
+no_name : (words : List Word) (texts : List (List ℕ)) → names_model words ≡ false → named_by words texts ≡ None
+no_name [] texts none = refl
+no_name (word ∷ words) [] none = refl
+no_name (word ∷ words) (text ∷ texts) none = by_word (is_model word) refl (no_name words texts)
+  where
+    by_word : (named : Bool) → is_model word ≡ named → (names_model words ≡ false → named_by words texts ≡ None) → named_by (word ∷ words) (text ∷ texts) ≡ None
+    by_word true is later = let bad = rw is at none in cc
+    by_word false is later = let rest = rw is at none in rw is (later rest)
+
+pub no_text : (words : List (List ℕ)) (text : Option (List ℕ)) → names_model (words_of words) ≡ false → text ≡ option_map chars (model_name words) → text ≡ None
+no_text words text none is = is ∙ ap (option_map chars) (no_name (words_of words) words none)
 
 -- a step past a word that names no model
 named-drop : {Y : Type 0} (f : Y → List ℕ) (words : List Word) (texts : List Y) (i : ℕ) (d : Word) → i < length words → length words ≡ length texts → is_model (get_or words i d) ≡ false → named_by (drop i words) (map f (drop i texts)) ≡ named_by (drop (suc i) words) (map f (drop (suc i) texts))

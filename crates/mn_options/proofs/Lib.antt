@@ -1,4 +1,6 @@
+pub mod Breaking
 pub mod Digits
 pub mod Lawful
 pub mod Limited
 pub mod Unbroken
+pub mod Wanting

@@ -19,8 +19,10 @@ mod usage;
 mod words;
 
 pub use laws::{lawful_words_break_no_rule, tables_are_unambiguous};
+pub use mn_gen::GenKind;
 pub use mn_model::Text;
 pub use mn_order::Choice;
 pub use options::{Options, parse};
-pub use table::{CommandOption, ORDERS, TABLE};
+pub use table::{CommandOption, KINDS, ORDERS, TABLE};
+pub use told::Wanted;
 pub use usage::Usage;

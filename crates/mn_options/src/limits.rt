@@ -1,9 +1,11 @@
-//! The limit that a word writes.
+//! The numbers that words write.
 ghost use Rattle.std.specs.Prelude.{◌≡◌, ◌≤◌, length, IsTrue};
 ghost use Rattle.std.specs.List.{list_all};
 ghost use Rattle.std.specs.Char.{is_ascii_digit};
 ghost use Rattle.std.specs.Str.Parse.{digits_value};
-ghost use Rattle.mn_options.specs.Limits.{is_number, limit_in};
+ghost use Rattle.mn_options.specs.Limits.{is_number, is_size, limit_in, number_in, size_in};
+
+use mn_gen::GREATEST_SIZE;
 
 /// The most digits that a number has.
 pub const MOST_DIGITS: usize = 18;
@@ -32,6 +34,18 @@ fn value_of_digits(digits: &[u8]) -> u64
     value
 }
 
+/// The number, if the word writes one.
+pub fn number_in(word: &[u8]) -> Option<u64>
+    ensures { result ≡ number_in word.now }
+{
+    if is_number(word) {
+        Some(value_of_digits(word))
+    } else {
+        None
+    }
+}
+
+/// The limit, if the word writes one: a number other than 0.
 pub fn limit_in(word: &[u8]) -> Option<u64>
     ensures { result ≡ limit_in word.now }
 {
@@ -42,4 +56,21 @@ pub fn limit_in(word: &[u8]) -> Option<u64>
         0 => None,
         limit => Some(limit),
     }
+}
+
+fn is_size(n: u64) -> bool
+    ensures { result ≡ is_size n }
+{
+    1 <= n && n <= GREATEST_SIZE
+}
+
+/// The size of a generated model, if the word writes one.
+pub fn size_in(word: &[u8]) -> Option<u64>
+    ensures { result ≡ size_in word.now }
+{
+    if !is_number(word) {
+        return None;
+    }
+    let n = value_of_digits(word);
+    if is_size(n) { Some(n) } else { None }
 }

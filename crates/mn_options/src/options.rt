@@ -1,5 +1,6 @@
 //! What the words ask for together, or the rule that they break first.
 ghost use Rattle.std.specs.Prelude.{◌≡◌, ◌⊎◌, map, option_map, chars, encode_utf8_all, string_bytes, None, Some, IsOk, IsErrOf, IsSome, IfOk, IfErr, IfSome, IsNone};
+ghost use Rattle.mn_gen.specs.Made.{IsSize};
 ghost use Rattle.mn_options.specs.Limits.{IsLimit};
 ghost use Rattle.mn_options.specs.Meant.{AreOptions, model_name};
 ghost use Rattle.mn_options.specs.Rules.{first_broken};
@@ -7,7 +8,7 @@ ghost use Rattle.mn_options.specs.Words.{words_of};
 
 use crate::rules::{asks_for, first_broken};
 use crate::table::CommandOption;
-use crate::told::{choice_of, limit_of, named_by};
+use crate::told::{Wanted, choice_of, limit_of, named_by, wanted_of};
 use crate::usage::Usage;
 use crate::words::{Word, words_of};
 use mn_model::Text;
@@ -17,8 +18,10 @@ use std::alloc::{AllocError, Global};
 /// What lawful words ask for.
 #[derive(Debug, Drop)]
 pub struct Options {
-    /// The name of the model.
+    /// The name of the model, if one is named.
     pub model: Option<Text>,
+    /// The model that is to be generated, if one is: exactly where none is named.
+    pub generate: Option<Wanted>,
     /// Whether all solutions are asked for, however many there are.
     pub find_all: bool,
     /// At which solution the search ends.
@@ -59,8 +62,9 @@ fn model_text(alloc: Global, found: &[Word], words: &[String]) -> Result<Option<
 pub fn parse(alloc: Global, words: &Vec<String>) -> Result<Options, Usage>
     ensures ok { IfOk result (λ options. AreOptions (map string_bytes words.now.items) options) }
 
-    // A model is always named, and its characters are written by the bytes of its word.
-    ensures named { IfOk result (λ options. IsSome options.model) }
+    // A model is named or to be generated, and not both. The characters of a name are written by the bytes of its word.
+    ensures named { IfOk result (λ options. (IsSome options.model × (options.generate ≡ None)) ⊎ ((options.model ≡ None) × IsSome options.generate)) }
+    ensures size { IfOk result (λ options. IfSome options.generate (λ wanted. IsSize wanted.n)) }
     ensures name { IfOk result (λ options. option_map encode_utf8_all options.model ≡ model_name (map string_bytes words.now.items)) }
 
     // A limit is never 0, and has 18 digits at most.
@@ -81,6 +85,7 @@ pub fn parse(alloc: Global, words: &Vec<String>) -> Result<Options, Usage>
     }
     Ok(Options {
         model: model_text(alloc, &found, words)?,
+        generate: wanted_of(&found),
         find_all: asks_for(&found, CommandOption::FindAllSols),
         sol_limit: limit_of(CommandOption::SolLimit, &found),
         node_limit: limit_of(CommandOption::NodeLimit, &found),

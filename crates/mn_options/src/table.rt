@@ -1,7 +1,8 @@
-//! The options and their words, and the words of the orders.
+//! The options and their words, and the words of the orders and of the kinds of generated models.
 ghost use Rattle.std.specs.Prelude.{◌≡◌};
-ghost use Rattle.mn_options.specs.Words.{same_option, takes_value};
+ghost use Rattle.mn_options.specs.Words.{same_option, value_count};
 
+use mn_gen::GenKind;
 use mn_order::Choice;
 
 /// An option that stands in the table.
@@ -9,6 +10,8 @@ use mn_order::Choice;
 pub enum CommandOption {
     /// All solutions are asked for, however many there are.
     FindAllSols,
+    /// A model is generated in place of a file.
+    Generate,
     /// The search ends after so many visits.
     NodeLimit,
     /// No solution is printed.
@@ -24,8 +27,9 @@ pub enum CommandOption {
 }
 
 /// The options, each after its word.
-pub const TABLE: [(&str, CommandOption); 7] = [
+pub const TABLE: [(&str, CommandOption); 8] = [
     ("-findallsols", CommandOption::FindAllSols),
+    ("-generate", CommandOption::Generate),
     ("-nodelimit", CommandOption::NodeLimit),
     ("-noprintsols", CommandOption::NoPrintSols),
     ("-noresume", CommandOption::NoResume),
@@ -42,13 +46,17 @@ pub const ORDERS: [(&str, Choice); 4] = [
     ("srf", Choice::Ratio),
 ];
 
-/// Whether the word after the option is its value.
-pub fn takes_value(option: CommandOption) -> bool
-    ensures { result ≡ takes_value option }
+/// The kinds of generated models, each after its word.
+pub const KINDS: [(&str, GenKind); 2] = [("queens", GenKind::Queens), ("tables", GenKind::Tables)];
+
+/// How many words after the option are its values.
+pub fn value_count(option: CommandOption) -> usize
+    ensures { result ≡ value_count option }
 {
     match option {
-        CommandOption::NodeLimit | CommandOption::SolLimit | CommandOption::VarOrder => true,
-        _ => false,
+        CommandOption::Generate => 3,
+        CommandOption::NodeLimit | CommandOption::SolLimit | CommandOption::VarOrder => 1,
+        _ => 0,
     }
 }
 

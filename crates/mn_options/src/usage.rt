@@ -15,11 +15,11 @@ pub enum Usage {
     BadNumber(u64),
     /// The option was there before.
     Twice(u64),
-    /// All words are lawful, and none of them names a model.
+    /// All words are lawful, and there is no model: none is named, and none is to be generated.
     NoModel,
     /// The word names a model, and one was named before.
     SecondModel(u64),
-    /// The word excludes one before it.
+    /// The word excludes one before it: a model is named and another is to be generated.
     Clash(u64),
     /// Memory ran out.
     NoMemory,

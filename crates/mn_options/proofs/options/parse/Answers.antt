@@ -1,13 +1,16 @@
 use Rattle.std.proofs.Common.{◌≡◌, None, map, rules, string_bytes}
-use Rattle.mn_options.proofs.Lawful.{lawful_text}
-use Rattle.mn_options.proofs.Limited.{limit_is}
+use Rattle.mn_options.proofs.Limited.{limit_is, wanted_has_size}
+use Rattle.mn_options.proofs.Wanting.{one_source}
 use Rattle.mn_options.specs.Meant.{limit_of}
 use Rattle.mn_options.specs.Words.{words_behind}
 use Rattle.mn_options.specs.declared.table.CommandOption.TheVariants.{NodeLimit, SolLimit}
 use Rattle.mn_options.proofs.options.parse.Goals as goal
 
 pub returns-clause-named : goal.returns-clause-named
-returns-clause-named c = search (rules, lawful_text)
+returns-clause-named c = search (rules, one_source)
+
+pub returns-clause-size : goal.returns-clause-size
+returns-clause-size c = search (rules, wanted_has_size)
 
 pub returns-clause-sol_limit : goal.returns-clause-sol_limit
 returns-clause-sol_limit c =

@@ -1,0 +1,6 @@
+use Rattle.std.proofs.Common.{◌≡◌, drop}
+use Rattle.mn_options.specs.Meant.{first_told, kind_at}
+use Rattle.mn_options.proofs.told.kind_in.Given as goal
+
+abbrev pub invariant-loop-word : goal.invariant-loop-word
+invariant-loop-word l = first_told kind_at (drop l.word-index l.words) ≡ first_told kind_at l.words
