@@ -1,0 +1,4 @@
+pub mod Boards
+pub mod Generated
+pub mod Made
+pub mod Rings
