@@ -33,11 +33,12 @@ pub(crate) fn declared(alloc: Global, name: char, n: u32, most: u32) -> Result<I
     requires letter { (name ≡ 113) ⊎ (name ≡ 118) }
     ensures { IfOk result (λ inst. inst ≡ posing (variables_named (name ∷ []) n most) [] []) }
 {
-    let mut inst = Instance::empty(alloc)?;
     let mut dims = Dims::new(alloc);
     dims.push(n)?;
     let values = Domain::stretch(alloc, 0, i64::from(most));
-    inst.declare(letter(alloc, name)?, dims, Kind::Discrete, values)?;
+    let name = letter(alloc, name)?;
+    let mut inst = Instance::empty(alloc)?;
+    inst.declare(name, dims, Kind::Discrete, values)?;
     Ok(inst)
 }
 
