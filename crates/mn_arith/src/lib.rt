@@ -12,6 +12,7 @@ mod extreme;
 mod extremum;
 mod found;
 mod hull;
+mod product;
 mod span;
 
 pub use arith::Arith;

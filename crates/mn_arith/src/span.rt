@@ -110,12 +110,21 @@ impl Span {
     }
 }
 
-fn greater(a: i64, b: i64) -> i64
+/// The greater and the lesser of two numbers.
+pub(crate) fn greater(a: i64, b: i64) -> i64
     ensures first { a ≤ℤ result }
     ensures second { b ≤ℤ result }
     ensures one { (result ≡ a) ⊎ (result ≡ b) }
 {
     if a < b { b } else { a }
+}
+
+pub(crate) fn lesser(a: i64, b: i64) -> i64
+    ensures first { result ≤ℤ a }
+    ensures second { result ≤ℤ b }
+    ensures one { (result ≡ a) ⊎ (result ≡ b) }
+{
+    if a < b { a } else { b }
 }
 
 // The sum and the difference of two near numbers.
