@@ -182,7 +182,10 @@ impl Span {
         requires none { HasPartner product a self z → ⊥ }
         ensures { IsPartnerBefore product a self z result }
     {
-        let last = greater(self.leap_back(a, z), self.opposite().leap_back(a, z.opposite()));
+        let last = greater(
+            self.leap_back(a, z),
+            self.opposite().leap_back(a, z.opposite()),
+        );
         lesser(a - 1, greater(0, last))
     }
 

@@ -38,6 +38,6 @@ returns c =
     let within = c.if-self-first.false in
     let product_is = rw (to_z-of_z w64 c.args.a c.ranges.a, to_z-of_z w64 c.greater-first.result f) at c.times.ensures in
     rw (to_z-of_z w64 c.times.result t, to_z-of_z w64 c.args.z.hi most) (
-        (λ e. multiple_so c.args.a first s z is (omega (arith, ints, within, hi, f)) (omega (arith, ints, product_is, e))),
-        λ some. (let few = (so_multiple c.args.a first s z c.requires.above is some).1 in le_true c.times.result c.args.z.hi (omega (arith, ints, few, product_is))),
+      (λ e. multiple_so c.args.a first s z is (omega (arith, ints, within, hi, f)) (omega (arith, ints, product_is, e))),
+      λ some. (let few = (so_multiple c.args.a first s z c.requires.above is some).1 in le_true c.times.result c.args.z.hi (omega (arith, ints, few, product_is))),
     )

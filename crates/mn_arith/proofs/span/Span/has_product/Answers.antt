@@ -29,6 +29,6 @@ returns c =
     let fits = c.ranges.a in
     let is_zero : c.args.a ≡ pos 0 = omega (arith, ints, up, down, fits) in
     rw (to_z-of_z w64 c.args.z.hi hi) (
-        (λ e. partner_zero c.args.a s z is_zero c.requires.own.filled (omega (arith, ints, low, lo)) (omega (arith, ints, e))),
-        λ some. le_true (pos 0) c.args.z.hi (none_of_zero c.args.a s z is_zero some).1,
+      (λ e. partner_zero c.args.a s z is_zero c.requires.own.filled (omega (arith, ints, low, lo)) (omega (arith, ints, e))),
+      λ some. le_true (pos 0) c.args.z.hi (none_of_zero c.args.a s z is_zero some).1,
     )

@@ -8,6 +8,6 @@ pub returns : goal.returns
 returns c =
     let m : FitsSigned w64 c.greatest_product.result = search rules in
     rw (to_z-of_z w64 c.greatest_product.result m, to_z-of_z w64 c.args.a c.ranges.a) (
-        (λ e. from_m c.args.self c.args.other c.greatest_product.result c.args.a c.greatest_product.ensures (le_so c.args.a c.greatest_product.result e)),
-        λ some. le_true c.args.a c.greatest_product.result (at_most_m c.args.self c.args.other c.greatest_product.result c.args.a c.greatest_product.ensures some),
+      (λ e. from_m c.args.self c.args.other c.greatest_product.result c.args.a c.greatest_product.ensures (le_so c.args.a c.greatest_product.result e)),
+      λ some. le_true c.args.a c.greatest_product.result (at_most_m c.args.self c.args.other c.greatest_product.result c.args.a c.greatest_product.ensures some),
     )

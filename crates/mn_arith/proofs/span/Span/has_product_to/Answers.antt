@@ -8,6 +8,6 @@ pub returns : goal.returns
 returns c =
     let m : FitsSigned w64 c.least_product.result = search rules in
     rw (to_z-of_z w64 c.least_product.result m, to_z-of_z w64 c.args.a c.ranges.a) (
-        (λ e. to_m c.args.self c.args.other c.least_product.result c.args.a c.least_product.ensures (le_so c.least_product.result c.args.a e)),
-        λ some. le_true c.least_product.result c.args.a (at_least_m c.args.self c.args.other c.least_product.result c.args.a c.least_product.ensures some),
+      (λ e. to_m c.args.self c.args.other c.least_product.result c.args.a c.least_product.ensures (le_so c.least_product.result c.args.a e)),
+      λ some. le_true c.least_product.result c.args.a (at_least_m c.args.self c.args.other c.least_product.result c.args.a c.least_product.ensures some),
     )

@@ -8,6 +8,6 @@ returns c = λ a below above.
     let low : FitsSigned w64 c.least_product.result = search rules in
     let high : FitsSigned w64 c.greatest_product.result = search rules in
     rw (to_z-of_z w64 c.least_product.result low, to_z-of_z w64 c.greatest_product.result high) (
-        at_least_m c.args.self c.args.other c.least_product.result a c.least_product.ensures below,
-        at_most_m c.args.self c.args.other c.greatest_product.result a c.greatest_product.ensures above,
+      at_least_m c.args.self c.args.other c.least_product.result a c.least_product.ensures below,
+      at_most_m c.args.self c.args.other c.greatest_product.result a c.greatest_product.ensures above,
     )
