@@ -58,7 +58,7 @@ impl Operation {
         ensures { (a : ℤ) → IsIn x a → HasPartner (value_by self) a s z → IsIn result a }
     {
         match self {
-            Operation::Difference => s.around(z),
+            Operation::Difference => s.around(x, z),
             Operation::Product => s.factors(x, z),
         }
     }
