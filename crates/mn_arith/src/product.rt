@@ -123,8 +123,8 @@ impl Span {
         }
     }
 
-    // The least such number. It goes from one number to the next that can be such by its quotients, so it makes at most about as
-    // many steps as twice the root of the ends of `z`.
+    // The least such number. The search goes on where the quotients say that the next one can be: each step makes the number
+    // greater and the quotient less, so it takes at most about twice the root of the greatest number of `z`.
     fn first_factor(self, x: Span, z: Span) -> i64
         requires given { IsNearSpan x }
         requires own { IsNearSpan self }
