@@ -1,5 +1,5 @@
 -- A place that is cut to bounds around what is supported.
-use Rattle.std.proofs.Common.{ℕ, ℤ, ◌≤ℤ◌, int_le, List, Result, Ok, sym, subst, ◌∙◌, arith, true≢false}
+use Rattle.std.proofs.Common.{◌≡◌, ℕ, ℤ, ◌≤ℤ◌, int_le, List, Result, Ok, sym, subst, ◌∙◌, arith, true≢false}
 use Rattle.std.proofs.lemmas.Int.{ints}
 use Rattle.mn_model.specs.declared.constraint.Term.{Term}
 use Rattle.mn_model.proofs.Ordered.{le_true}
@@ -50,6 +50,10 @@ later_ready posted part ready = subst (λ vars. IsReadyToRun vars posted) (sym (
 
 pub both_parts : {old mid new : Context} {done : Unit {0}} {result : Result (Unit {0}) Fail} (posted : Posted) → IsPart posted (λ b. Unit {0}) old mid (Ok done) → IsPart posted (λ b. Unit {0}) mid new result → IsPart posted (λ b. Unit {0}) old new result
 both_parts posted one two = part_as (λ both. tt) (part_then one two)
+
+-- where some value went, a part is a pass
+pub cut_step : {old new : Context} (posted : Posted) → IsPart posted (λ b. Unit {0}) old new (Ok tt) → (box_of new ≡ box_of old → ⊥) → IsStep (Unsupported posted) (ClosedUnderLeaf (vars_of old) posted) old new (Ok tt)
+cut_step posted part differs = record { loses = part.narrows.loses; sound = part.narrows.sound; fail = tt; still = λ same. absurd (differs same) }
 
 -- a step that closes the sets behind a part is a pass
 pub last_step : {old mid new : Context} {done : Unit {0}} {result : Result (Unit {0}) Fail} (posted : Posted) → IsPart posted (λ b. Unit {0}) old mid (Ok done) → IsStep (Unsupported posted) (ClosedUnderLeaf (vars_of mid) posted) mid new result → IsStep (Unsupported posted) (ClosedUnderLeaf (vars_of old) posted) old new result

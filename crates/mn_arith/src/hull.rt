@@ -124,16 +124,36 @@ fn span_of(c: &Ctx, t: Term) -> Span
 }
 
 impl Computed<'_> {
-    /// Takes each end that isn't supported: first those that the ends of the others tell, and then one by one. What is computed is
-    /// cut last: its ends hang on those of the other two, which are supported still after it is cut.
+    /// Cuts each place to what the others allow. What is computed is cut last: its ends hang on those of the other two, which are
+    /// supported still after it is cut. Where nothing was cut, the ends are tried one by one.
     pub(crate) fn filter(&self, c: &mut Ctx) -> Result<(), Fail>
         requires { IsReadyToRun (vars_of c.old) (computed_of self.now) }
         ensures { IsStep (Unsupported (computed_of self.now)) (ClosedUnderLeaf (vars_of c.old) (computed_of self.now)) c.old c.new result }
     {
+        let x = span_of(c, self.x);
+        let y = span_of(c, self.y);
+        let z = span_of(c, self.z);
         self.cut_place(c, 0)?;
         self.cut_place(c, 1)?;
         self.cut_place(c, 2)?;
+        if self.is_cut(c, x, y, z) {
+            return Ok(());
+        }
         revise_all(self, c)
+    }
+
+    // Whether some place doesn't reach from one end of its span to the other any more.
+    fn is_cut(&self, c: &Ctx, x: Span, y: Span, z: Span) -> bool
+        requires { IsReadyToRun (vars_of c.now) (computed_of self.now) }
+        ensures { IsTrue result → IsSpanOf (box_of c.now) self.now.x x → IsSpanOf (box_of c.now) self.now.y y → IsSpanOf (box_of c.now) self.now.z z → ⊥ }
+    {
+        if !span_of(c, self.x).is(x) {
+            return true;
+        }
+        if !span_of(c, self.y).is(y) {
+            return true;
+        }
+        !span_of(c, self.z).is(z)
     }
 
     // Cuts a place to what the ends of the others allow.

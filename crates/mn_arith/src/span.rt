@@ -27,6 +27,16 @@ impl Span {
         true
     }
 
+    /// Whether it has the same ends.
+    pub(crate) fn is(self, other: Span) -> bool
+        ensures { IsTrue result ↔ ((self.lo ≡ other.lo) × (self.hi ≡ other.hi)) }
+    {
+        if self.lo != other.lo {
+            return false;
+        }
+        self.hi == other.hi
+    }
+
     // Its least number that isn't below 0.
     fn least_size(self) -> i64
         ensures { IsLeastSize self result }
