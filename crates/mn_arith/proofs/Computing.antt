@@ -1,5 +1,6 @@
 -- What is supported of places one of which is computed from two others.
-use Rattle.std.proofs.Common.{◌≡◌, ◌↔◌, ℕ, zero, suc, ◌<◌, ℤ, pos, ◌-ℤ◌, ◌≤ℤ◌, Bool, IsTrue, List, [], ◌∷◌, length, slice_get, refl, subst, ap, ◌∙◌, arith}
+use Rattle.std.proofs.Common.{◌≡◌, ◌↔◌, ℕ, zero, suc, ◌<◌, ℤ, pos, ◌-ℤ◌, ◌≤ℤ◌, Bool, IsTrue, List, [], ◌∷◌, length, slice_get, Some, refl, sym, subst, ap, ◌∙◌, arith}
+use Rattle.std.proofs.Math.IntN.{*ℤ_comm}
 use Rattle.std.proofs.lemmas.Int.{ints}
 use Rattle.mn_model.specs.Lawful.{IsNear, IsNearTerm}
 use Rattle.mn_model.specs.Parts.{places}
@@ -13,14 +14,14 @@ use Rattle.mn_boxes.specs.Boxes.{IsBox}
 use Rattle.mn_boxes.specs.Places.{PlaceHas}
 use Rattle.mn_boxes.specs.Sets.{Variable}
 use Rattle.mn_closure.specs.Levels.{Hull, level}
-use Rattle.mn_closure.specs.Supports.{HullSupported, difference, IsBetweenEnds, SomeBetweenEnds, StandsAt, Supported}
+use Rattle.mn_closure.specs.Supports.{HullSupported, IsBetweenEnds, SomeBetweenEnds, StandsAt, Supported}
 use Rattle.mn_prop.specs.Contexts.{AreValued}
 use Rattle.mn_prop.specs.Posts.{HasAt, IsReady}
 use Rattle.mn_prop.proofs.Valued.{valued_at}
 use Rattle.mn_arith.specs.Hulls.{computed_con, value_by}
 use Rattle.mn_arith.specs.Spans.{GivesAbove, GivesBelow, HasPartner, IsIn, IsNearSpan, IsSpanOf, SomeIn}
 use Rattle.mn_arith.specs.declared.hull.Operation.{Operation}
-use Rattle.mn_arith.specs.declared.hull.Operation.TheVariants.{Difference}
+use Rattle.mn_arith.specs.declared.hull.Operation.TheVariants.{Difference, Product}
 use Rattle.mn_arith.specs.declared.span.Span.{Span}
 use Rattle.mn_arith.proofs.Distances.{turned_difference}
 
@@ -68,12 +69,14 @@ module _ (f : Operation) (x y z : Term) where
     where
       by : (g : Operation) → places (computed_con g x y z) ≡ x ∷ y ∷ z ∷ []
       by Difference = refl
+      by Product = refl
 
   pub is_hull : level (computed_con f x y z) ≡ Hull
   is_hull = by f
     where
       by : (g : Operation) → level (computed_con g x y z) ≡ Hull
       by Difference = refl
+      by Product = refl
 
   pub first_stands : StandsAt (computed_con f x y z) 0 x
   first_stands = ap (λ ts. slice_get ts 0) its_places
@@ -90,12 +93,14 @@ module _ (f : Operation) (x y z : Term) where
       where
         by : (g : Operation) → HullSupported (value_by g) x y z i a box → Supported lists (computed_con g x y z) i a box
         by Difference is = is
+        by Product is = is
 
     so_hull : Supported lists (computed_con f x y z) i a box → HullSupported (value_by f) x y z i a box
     so_hull = by f
       where
         by : (g : Operation) → Supported lists (computed_con g x y z) i a box → HullSupported (value_by g) x y z i a box
         by Difference is = is
+        by Product is = is
 
 -- the value of a place that is asked about is near
 pub given_near : (f : Operation) (x y z : Term) (vars : List Variable) (lists : List Tuples) (box : List (List ℤ)) (i : ℕ) (a : ℤ) → IsBox vars box → AreValued vars → IsReady vars lists (computed_con f x y z) → i < length (places (computed_con f x y z)) → HasAt (computed_con f x y z) i a box → IsNear a
@@ -106,6 +111,7 @@ given_near f x y z vars lists box i a is valued ready within there =
 -- which of the two comes first makes no difference
 turned : (f : Operation) (a b : ℤ) → value_by f a b ≡ value_by f b a
 turned Difference a b = turned_difference a b
+turned Product a b = *ℤ_comm a b
 
 turn_related : (f : Operation) (a : ℤ) (s z : Span) → SomeIn s z (λ b c. value_by f b a ≡ c) → HasPartner (value_by f) a s z
 turn_related f a s z some = record { first = some.first; second = some.second; in_first = some.in_first; in_second = some.in_second; related = turned f a some.first ∙ some.related }
@@ -137,26 +143,23 @@ module _ (f : Operation) (x y z : Term) (lists : List Tuples) (a : ℤ) (box : L
     λ supported. (let reached = so_hull f x y z lists (suc (suc i)) a box supported in tells.1 (ends_in box x y s u (λ b c. value_by f b c ≤ℤ a) own other reached.below, ends_in box x y s u (λ b c. a ≤ℤ value_by f b c) own other reached.above)),
   )
 
--- what is told of each operation
-pub told_partner : (f : Operation) (a : ℤ) (s z : Span) (m : Bool) → IsTrue m ↔ HasPartner difference a s z → IsTrue m ↔ HasPartner (value_by f) a s z
-told_partner Difference a s z m tells = tells
+-- what is so of all values that have a partner is so of those that are supported
+value_in : (f : Operation) (x y z : Term) (box : List (List ℤ)) (i : ℕ) (t u : Term) (r : Span) (a : ℤ) → StandsAt (computed_con f x y z) i u → IsSpanOf box u r → StandsAt (computed_con f x y z) i t → PlaceHas box t a → IsIn r a
+value_in f x y z box i t u r a own span stands has =
+    let both : Some t ≡ Some u = sym stands ∙ own in
+    let same : t ≡ u = cc in
+    let there = subst (λ v. PlaceHas box v a) same has in
+    (span.low.least a there, span.high.greatest a there)
 
-pub told_below : (f : Operation) (a : ℤ) (s u : Span) (m : Bool) → IsTrue m ↔ GivesBelow difference a s u → IsTrue m ↔ GivesBelow (value_by f) a s u
-told_below Difference a s u m tells = tells
-
-pub told_above : (f : Operation) (a : ℤ) (s u : Span) (m : Bool) → IsTrue m ↔ GivesAbove difference a s u → IsTrue m ↔ GivesAbove (value_by f) a s u
-told_above Difference a s u m tells = tells
-
--- what is so of all that has a partner is so of what is supported
 module _ (f : Operation) (x y z : Term) (lists : List Tuples) (box : List (List ℤ)) (P : ℤ → Type 0) where
-  pub first_so : (i : ℕ) (s u : Span) → i ≡ 0 → IsSpanOf box y s → IsSpanOf box z u → ((a : ℤ) → HasPartner (value_by f) a s u → P a) → (a : ℤ) → Supported lists (computed_con f x y z) i a box → P a
-  first_so zero s u same own other so a supported = so a (ends_in box y z s u (λ b c. value_by f a b ≡ c) own other (so_hull f x y z lists 0 a box supported))
-  first_so (suc i) s u same own other so a supported = cc
+  pub first_so : (i : ℕ) (r s u : Span) → i ≡ 0 → IsSpanOf box x r → IsSpanOf box y s → IsSpanOf box z u → ((a : ℤ) → IsIn r a → HasPartner (value_by f) a s u → P a) → (t : Term) (a : ℤ) → StandsAt (computed_con f x y z) i t → PlaceHas box t a → Supported lists (computed_con f x y z) i a box → P a
+  first_so zero r s u same given own other so t a stands has supported = so a (value_in f x y z box 0 t x r a (first_stands f x y z) given stands has) (ends_in box y z s u (λ b c. value_by f a b ≡ c) own other (so_hull f x y z lists 0 a box supported))
+  first_so (suc i) r s u same given own other so t a stands has supported = cc
 
-  pub second_so : (i : ℕ) (s u : Span) → i ≡ 1 → IsSpanOf box x s → IsSpanOf box z u → ((a : ℤ) → HasPartner (value_by f) a s u → P a) → (a : ℤ) → Supported lists (computed_con f x y z) i a box → P a
-  second_so zero s u same own other so a supported = cc
-  second_so (suc zero) s u same own other so a supported = so a (turn_related f a s u (ends_in box x z s u (λ b c. value_by f b a ≡ c) own other (so_hull f x y z lists 1 a box supported)))
-  second_so (suc (suc i)) s u same own other so a supported = cc
+  pub second_so : (i : ℕ) (r s u : Span) → i ≡ 1 → IsSpanOf box y r → IsSpanOf box x s → IsSpanOf box z u → ((a : ℤ) → IsIn r a → HasPartner (value_by f) a s u → P a) → (t : Term) (a : ℤ) → StandsAt (computed_con f x y z) i t → PlaceHas box t a → Supported lists (computed_con f x y z) i a box → P a
+  second_so zero r s u same given own other so t a stands has supported = cc
+  second_so (suc zero) r s u same given own other so t a stands has supported = so a (value_in f x y z box 1 t y r a (second_stands f x y z) given stands has) (turn_related f a s u (ends_in box x z s u (λ b c. value_by f b a ≡ c) own other (so_hull f x y z lists 1 a box supported)))
+  second_so (suc (suc i)) r s u same given own other so t a stands has supported = cc
 
   pub third_so : (i : ℕ) (s u : Span) → (i ≡ 0 → ⊥) → (i ≡ 1 → ⊥) → IsSpanOf box x s → IsSpanOf box y u → ((a : ℤ) → GivesBelow (value_by f) a s u → GivesAbove (value_by f) a s u → P a) → (a : ℤ) → Supported lists (computed_con f x y z) i a box → P a
   third_so zero s u first second own other so a supported = absurd (first refl)
@@ -164,9 +167,3 @@ module _ (f : Operation) (x y z : Term) (lists : List Tuples) (box : List (List 
   third_so (suc (suc i)) s u first second own other so a supported =
       let reached = so_hull f x y z lists (suc (suc i)) a box supported in
       so a (ends_in box x y s u (λ b c. value_by f b c ≤ℤ a) own other reached.below) (ends_in box x y s u (λ b c. a ≤ℤ value_by f b c) own other reached.above)
-
-pub so_partner : (f : Operation) (s z r : Span) → ((a : ℤ) → HasPartner difference a s z → IsIn r a) → (a : ℤ) → HasPartner (value_by f) a s z → IsIn r a
-so_partner Difference s z r so = so
-
-pub so_results : (f : Operation) (s u r : Span) → ((a : ℤ) → GivesBelow difference a s u → GivesAbove difference a s u → IsIn r a) → (a : ℤ) → GivesBelow (value_by f) a s u → GivesAbove (value_by f) a s u → IsIn r a
-so_results Difference s u r so = so

@@ -3,7 +3,7 @@ use Rattle.std.proofs.Common.{◌≡◌, zero, suc, ℤ, pos, negsuc, neg_ℤ, �
 use Rattle.std.proofs.lemmas.Int.{ints}
 use Rattle.mn_closure.specs.Supports.{difference}
 use Rattle.mn_prop.proofs.Trying.{at_most_or}
-use Rattle.mn_arith.specs.Spans.{GivesAbove, GivesBelow, HasPartner, IsLeastSize, SomeBoth}
+use Rattle.mn_arith.specs.Spans.{GivesAbove, GivesBelow, HasPartner, IsIn, IsLeastSize, SomeBoth}
 use Rattle.mn_arith.specs.declared.span.Span.{Span}
 
 -- the size of a number
@@ -136,26 +136,37 @@ moved_both s lo hi low high some one two = let from = some.from in let to = some
 
 -- ---- bounds
 
-pub around_so : (s z : Span) (lo hi : ℤ) → lo ≡ s.lo -ℤ z.hi → hi ≡ s.hi +ℤ z.hi → (a : ℤ) → HasPartner difference a s z → (lo ≤ℤ a) × (a ≤ℤ hi)
-around_so s z lo hi low high a some = by (sided a some.first).side
+pub around_so : (s x z : Span) (least lo hi : ℤ) → IsLeastSize z least → (((s.hi -ℤ least) <ℤ x.lo) × (lo ≡ s.lo +ℤ least)) ⊎ (lo ≡ s.lo -ℤ z.hi) → ((x.hi <ℤ (s.lo +ℤ least)) × (hi ≡ s.hi -ℤ least)) ⊎ (hi ≡ s.hi +ℤ z.hi) → (a : ℤ) → IsIn x a → HasPartner difference a s z → (lo ≤ℤ a) × (a ≤ℤ hi)
+around_so s x z least lo hi is low high a own some = by (partner_side a least s z is some)
   where
-    by : ((some.first ≤ℤ a) × (difference a some.first ≡ a -ℤ some.first)) ⊎ ((a ≤ℤ some.first) × (difference a some.first ≡ some.first -ℤ a)) → (lo ≤ℤ a) × (a ≤ℤ hi)
-    by (inl side) =
-        let le = side.0 in
-        let apart = side.1 in
-        let related = some.related in
-        let from = some.in_first.0 in
-        let to = some.in_first.1 in
-        let few = some.in_second.1 in
-        (omega (arith, ints, le, apart, related, from, few, low), omega (arith, ints, le, apart, related, to, few, high))
-    by (inr side) =
-        let le = side.0 in
-        let apart = side.1 in
-        let related = some.related in
-        let from = some.in_first.0 in
-        let to = some.in_first.1 in
-        let few = some.in_second.1 in
-        (omega (arith, ints, le, apart, related, from, few, low), omega (arith, ints, le, apart, related, to, few, high))
+    up : pos 0 ≤ℤ least
+    up = is.up
+
+    first : x.lo ≤ℤ a
+    first = own.0
+
+    last : a ≤ℤ x.hi
+    last = own.1
+
+    from_below : SomeBoth s (a +ℤ least) (a +ℤ z.hi) → (((s.hi -ℤ least) <ℤ x.lo) × (lo ≡ s.lo +ℤ least)) ⊎ (lo ≡ s.lo -ℤ z.hi) → lo ≤ℤ a
+    from_below both (inl gap) = let past = gap.0 in let from = both.from in let to = both.own.1 in absurd (omega (arith, ints, past, from, to, first))
+    from_below both (inr same) = let to = both.to in let from = both.own.0 in omega (arith, ints, same, to, from)
+
+    to_below : SomeBoth s (a +ℤ least) (a +ℤ z.hi) → ((x.hi <ℤ (s.lo +ℤ least)) × (hi ≡ s.hi -ℤ least)) ⊎ (hi ≡ s.hi +ℤ z.hi) → a ≤ℤ hi
+    to_below both (inl gap) = let same = gap.1 in let from = both.from in let to = both.own.1 in omega (arith, ints, same, from, to)
+    to_below both (inr same) = let from = both.from in let most = both.to in let to = both.own.1 in omega (arith, ints, same, from, most, to, up)
+
+    from_above : SomeBoth s (a -ℤ z.hi) (a -ℤ least) → (((s.hi -ℤ least) <ℤ x.lo) × (lo ≡ s.lo +ℤ least)) ⊎ (lo ≡ s.lo -ℤ z.hi) → lo ≤ℤ a
+    from_above both (inl gap) = let same = gap.1 in let to = both.to in let from = both.own.0 in omega (arith, ints, same, to, from)
+    from_above both (inr same) = let to = both.to in let least_is = both.from in let from = both.own.0 in omega (arith, ints, same, to, least_is, from, up)
+
+    to_above : SomeBoth s (a -ℤ z.hi) (a -ℤ least) → ((x.hi <ℤ (s.lo +ℤ least)) × (hi ≡ s.hi -ℤ least)) ⊎ (hi ≡ s.hi +ℤ z.hi) → a ≤ℤ hi
+    to_above both (inl gap) = let past = gap.0 in let to = both.to in let from = both.own.0 in absurd (omega (arith, ints, past, to, from, last))
+    to_above both (inr same) = let from = both.from in let to = both.own.1 in omega (arith, ints, same, from, to)
+
+    by : SomeBoth s (a -ℤ z.hi) (a -ℤ least) ⊎ SomeBoth s (a +ℤ least) (a +ℤ z.hi) → (lo ≤ℤ a) × (a ≤ℤ hi)
+    by (inl both) = (from_above both low, to_above both high)
+    by (inr both) = (from_below both low, to_below both high)
 
 pub distances_so : (s u : Span) (apart lo hi : ℤ) → (apart ≡ s.lo -ℤ u.hi) ⊎ (apart ≡ u.lo -ℤ s.hi) → (lo ≡ pos 0) ⊎ (lo ≡ apart) → (s.hi -ℤ u.lo) ≤ℤ hi → (u.hi -ℤ s.lo) ≤ℤ hi → (a : ℤ) → GivesBelow difference a s u → GivesAbove difference a s u → (lo ≤ℤ a) × (a ≤ℤ hi)
 distances_so s u apart lo hi which least first second a below above = (low least which (sided below.first below.second).side, high (sided above.first above.second).side)

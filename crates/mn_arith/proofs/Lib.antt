@@ -3,8 +3,10 @@ pub mod Choosing
 pub mod Computing
 pub mod Declaring
 pub mod Distances
+pub mod Factors
 pub mod Finding
 pub mod Others
+pub mod Products
 pub mod Pruned
 pub mod Sharing
 pub mod Sifting

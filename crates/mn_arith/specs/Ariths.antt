@@ -17,6 +17,7 @@ posted_of (Forward f) = checked f
 -- the forms of arithmetic
 abbrev pub is_arithmetic : Con → Bool
 is_arithmetic (con.Difference x y z) = true
+is_arithmetic (con.Product x y z) = true
 is_arithmetic (con.Div x y z) = true
 is_arithmetic (con.Modulo x y z) = true
 is_arithmetic (con.Max v x) = true

@@ -36,6 +36,7 @@ impl<'a> Arith<'a> {
     {
         match con {
             Con::Difference(x, y, z) => Ok(computed(inst, Operation::Difference, *x, *y, *z)),
+            Con::Product(x, y, z) => Ok(computed(inst, Operation::Product, *x, *y, *z)),
             Con::Max(v, x) => extreme(alloc, inst, true, v, *x),
             Con::Min(v, x) => extreme(alloc, inst, false, v, *x),
             _ => Ok(Arith::Forward(ForwardCheck::build(alloc, inst, con)?)),

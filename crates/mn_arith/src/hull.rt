@@ -1,8 +1,9 @@
-//! Places one of which is computed from two others: `difference`.
+//! Places one of which is computed from two others: `difference` and `product`.
 ghost use Rattle.std.specs.Prelude.{◌↔◌, ◌<◌, ℤ, IsTrue, length};
 ghost use Rattle.mn_model.specs.Lawful.{IsNear};
 ghost use Rattle.mn_model.specs.Parts.{places};
-ghost use Rattle.mn_closure.specs.Supports.{Supported};
+ghost use Rattle.mn_boxes.specs.Places.{PlaceHas};
+ghost use Rattle.mn_closure.specs.Supports.{StandsAt, Supported};
 ghost use Rattle.mn_prop.specs.Contexts.{IsNamed, box_of, vars_of};
 ghost use Rattle.mn_prop.specs.Footings.{no_footing};
 ghost use Rattle.mn_prop.specs.Losses.{Unsupported};
@@ -21,6 +22,8 @@ use mn_prop::{Ctx, Fail, Scoped, SupportTest, revise_all};
 pub enum Operation {
     /// How far they are apart.
     Difference,
+    /// Their product.
+    Product,
 }
 
 /// A place z that is computed from x and y.
@@ -43,17 +46,20 @@ impl Operation {
     {
         match self {
             Operation::Difference => s.has_distance(a, z),
+            Operation::Product => s.has_product(a, z),
         }
     }
 
-    // Around the numbers with which some number of the span gives one of `z`.
-    fn operands(self, s: Span, z: Span) -> Span
+    // Around the numbers of `x` with which some number of the span gives one of `z`.
+    fn operands(self, x: Span, s: Span, z: Span) -> Span
+        requires given { IsNearSpan x }
         requires own { IsNearSpan s }
         requires other { IsNearSpan z }
-        ensures { (a : ℤ) → HasPartner (value_by self) a s z → IsIn result a }
+        ensures { (a : ℤ) → IsIn x a → HasPartner (value_by self) a s z → IsIn result a }
     {
         match self {
-            Operation::Difference => s.around(z),
+            Operation::Difference => s.around(x, z),
+            Operation::Product => s.factors(x, z),
         }
     }
 
@@ -65,6 +71,7 @@ impl Operation {
     {
         match self {
             Operation::Difference => s.distances(u),
+            Operation::Product => s.products(u),
         }
     }
 
@@ -76,6 +83,7 @@ impl Operation {
     {
         match self {
             Operation::Difference => s.is_near(a, u),
+            Operation::Product => s.has_product_to(a, u),
         }
     }
 
@@ -87,6 +95,7 @@ impl Operation {
     {
         match self {
             Operation::Difference => s.is_far(a, u),
+            Operation::Product => s.has_product_from(a, u),
         }
     }
 
@@ -115,15 +124,36 @@ fn span_of(c: &Ctx, t: Term) -> Span
 }
 
 impl Computed<'_> {
-    /// Takes each end that isn't supported: first those that the ends of the others tell, and then one by one.
+    /// Cuts each place to what the others allow. What is computed is cut last: its ends hang on those of the other two, which are
+    /// supported still after it is cut. Where nothing was cut, the ends are tried one by one.
     pub(crate) fn filter(&self, c: &mut Ctx) -> Result<(), Fail>
         requires { IsReadyToRun (vars_of c.old) (computed_of self.now) }
         ensures { IsStep (Unsupported (computed_of self.now)) (ClosedUnderLeaf (vars_of c.old) (computed_of self.now)) c.old c.new result }
     {
-        self.cut_place(c, 2)?;
+        let x = span_of(c, self.x);
+        let y = span_of(c, self.y);
+        let z = span_of(c, self.z);
         self.cut_place(c, 0)?;
         self.cut_place(c, 1)?;
+        self.cut_place(c, 2)?;
+        if self.is_cut(c, x, y, z) {
+            return Ok(());
+        }
         revise_all(self, c)
+    }
+
+    // Whether some place doesn't reach from one end of its span to the other any more.
+    fn is_cut(&self, c: &Ctx, x: Span, y: Span, z: Span) -> bool
+        requires { IsReadyToRun (vars_of c.now) (computed_of self.now) }
+        ensures { IsTrue result → IsSpanOf (box_of c.now) self.now.x x → IsSpanOf (box_of c.now) self.now.y y → IsSpanOf (box_of c.now) self.now.z z → ⊥ }
+    {
+        if !span_of(c, self.x).is(x) {
+            return true;
+        }
+        if !span_of(c, self.y).is(y) {
+            return true;
+        }
+        !span_of(c, self.z).is(z)
     }
 
     // Cuts a place to what the ends of the others allow.
@@ -142,17 +172,17 @@ impl Computed<'_> {
     fn bounds_at(&self, c: &Ctx, i: usize) -> Span
         requires ready { IsReadyToRun (vars_of c.now) (computed_of self.now) }
         requires place { i < length (places (computed_of self.now).con) }
-        ensures { (a : ℤ) → Supported (computed_of self.now).lists (computed_of self.now).con i a (box_of c.now) → IsIn result a }
+        ensures { (t : Term) (a : ℤ) → StandsAt (computed_of self.now).con i t → PlaceHas (box_of c.now) t a → Supported (computed_of self.now).lists (computed_of self.now).con i a (box_of c.now) → IsIn result a }
     {
         c.lawful();
         let x = span_of(c, self.x);
         let y = span_of(c, self.y);
         let z = span_of(c, self.z);
         if i == 0 {
-            return self.operation.operands(y, z);
+            return self.operation.operands(x, y, z);
         }
         if i == 1 {
-            return self.operation.operands(x, z);
+            return self.operation.operands(y, x, z);
         }
         self.operation.results(x, y)
     }

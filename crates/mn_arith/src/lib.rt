@@ -1,4 +1,4 @@
-//! Propagators of the constraints of arithmetic: differences, quotients and remainders, greatest and least.
+//! Propagators of the constraints of arithmetic: differences, products, quotients and remainders, greatest and least.
 //!
 //! An `Arith` narrows the places of one constraint, with the promises of a `Runner`.
 //!
@@ -12,6 +12,7 @@ mod extreme;
 mod extremum;
 mod found;
 mod hull;
+mod product;
 mod span;
 
 pub use arith::Arith;

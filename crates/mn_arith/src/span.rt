@@ -1,5 +1,5 @@
 //! All numbers from one to another, and how far apart such numbers are.
-ghost use Rattle.std.specs.Prelude.{◌≡◌, ◌↔◌, ◌⊎◌, ℤ, ◌+ℤ◌, ◌-ℤ◌, ◌≤ℤ◌, IsTrue};
+ghost use Rattle.std.specs.Prelude.{◌≡◌, ◌↔◌, ◌⊎◌, ℤ, ◌+ℤ◌, ◌-ℤ◌, ◌<ℤ◌, ◌≤ℤ◌, IsTrue};
 ghost use Rattle.mn_model.specs.Lawful.{IsNear};
 ghost use Rattle.mn_closure.specs.Supports.{difference};
 ghost use Rattle.mn_arith.specs.Spans.{GivesAbove, GivesBelow, HasPartner, IsIn, IsLeastSize, IsNearSpan, SomeBoth};
@@ -27,6 +27,16 @@ impl Span {
         true
     }
 
+    /// Whether it has the same ends.
+    pub(crate) fn is(self, other: Span) -> bool
+        ensures { IsTrue result ↔ ((self.lo ≡ other.lo) × (self.hi ≡ other.hi)) }
+    {
+        if self.lo != other.lo {
+            return false;
+        }
+        self.hi == other.hi
+    }
+
     // Its least number that isn't below 0.
     fn least_size(self) -> i64
         ensures { IsLeastSize self result }
@@ -51,15 +61,20 @@ impl Span {
         self.meets(more(a, least), more(a, z.hi))
     }
 
-    /// The numbers that are no farther from some number of the span than `z` says.
-    pub(crate) fn around(self, z: Span) -> Span
+    /// From the least number of `x` that is as far from some number of the span as `z` says to the greatest one. Those that are
+    /// too near to every number of the span are between the two sides of such numbers.
+    pub(crate) fn around(self, x: Span, z: Span) -> Span
+        requires given { IsNearSpan x }
         requires own { IsNearSpan self }
         requires other { IsNearSpan z }
-        ensures { (a : ℤ) → HasPartner difference a self z → IsIn result a }
+        ensures { (a : ℤ) → IsIn x a → HasPartner difference a self z → IsIn result a }
     {
+        let least = z.least_size();
+        let below = less(self.hi, least);
+        let above = more(self.lo, least);
         Span {
-            lo: less(self.lo, z.hi),
-            hi: more(self.hi, z.hi),
+            lo: beyond(below, x.lo, above, less(self.lo, z.hi)),
+            hi: beyond(x.hi, above, below, more(self.hi, z.hi)),
         }
     }
 
@@ -110,12 +125,28 @@ impl Span {
     }
 }
 
-fn greater(a: i64, b: i64) -> i64
+// `over` where `end` is less than `from`, and else `short`.
+fn beyond(end: i64, from: i64, over: i64, short: i64) -> i64
+    ensures { ((end <ℤ from) × (result ≡ over)) ⊎ (result ≡ short) }
+{
+    if end < from { over } else { short }
+}
+
+/// The greater and the lesser of two numbers.
+pub(crate) fn greater(a: i64, b: i64) -> i64
     ensures first { a ≤ℤ result }
     ensures second { b ≤ℤ result }
     ensures one { (result ≡ a) ⊎ (result ≡ b) }
 {
     if a < b { b } else { a }
+}
+
+pub(crate) fn lesser(a: i64, b: i64) -> i64
+    ensures first { result ≤ℤ a }
+    ensures second { result ≤ℤ b }
+    ensures one { (result ≡ a) ⊎ (result ≡ b) }
+{
+    if a < b { a } else { b }
 }
 
 // The sum and the difference of two near numbers.

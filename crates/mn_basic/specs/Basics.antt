@@ -25,6 +25,7 @@ is_basic (con.Watchelement v x y) = false
 is_basic (con.ElementOne v x y) = false
 is_basic (con.WatchelementOne v x y) = false
 is_basic (con.Difference x y z) = false
+is_basic (con.Product x y z) = false
 is_basic (con.Div x y z) = false
 is_basic (con.Modulo x y z) = false
 is_basic (con.Max v x) = false

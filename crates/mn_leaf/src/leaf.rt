@@ -24,7 +24,7 @@ pub enum Leaf<'a> {
     Basic(Basic<'a>),
     /// Sums.
     Sum(Sum<'a>),
-    /// Differences, quotients, remainders, the greatest and the least.
+    /// Differences, products, quotients, remainders, the greatest and the least.
     Arith(Arith<'a>),
     /// The entry of a vector at an index.
     Element(Element<'a>),
@@ -51,6 +51,7 @@ impl<'a> Leaf<'a> {
             | Con::Watchsumgeq(_, _)
             | Con::Litsumgeq(_, _, _) => Ok(Leaf::Sum(Sum::build(alloc, inst, con)?)),
             Con::Difference(_, _, _)
+            | Con::Product(_, _, _)
             | Con::Div(_, _, _)
             | Con::Modulo(_, _, _)
             | Con::Max(_, _)

@@ -1,7 +1,11 @@
-use Rattle.std.proofs.Common.{w64}
+use Rattle.std.proofs.Common.{◌↔◌, IsTrue, sym, subst, w64}
 use Rattle.std.proofs.lemmas.Int.{to_z-of_z}
-use Rattle.mn_arith.proofs.Computing.{told_above}
+use Rattle.mn_arith.specs.Hulls.{value_by}
+use Rattle.mn_arith.specs.Spans.{GivesAbove}
 use Rattle.mn_arith.proofs.hull.Operation.gives_above.Goals as goal
 
-pub returns : goal.returns
-returns c = told_above c.args.self c.args.a c.args.s c.args.u c.is_far.result (rw (to_z-of_z w64 c.args.a c.ranges.a) at c.is_far.ensures)
+pub returns-in-Difference : goal.returns-in-Difference
+returns-in-Difference c = subst (λ f. IsTrue c.is_far.result ↔ GivesAbove (value_by f) c.args.a c.args.s c.args.u) (sym c.in-Difference.is) (rw (to_z-of_z w64 c.args.a c.ranges.a) at c.is_far.ensures)
+
+pub returns-in-Product : goal.returns-in-Product
+returns-in-Product c = subst (λ f. IsTrue c.has_product_from.result ↔ GivesAbove (value_by f) c.args.a c.args.s c.args.u) (sym c.in-Product.is) (rw (to_z-of_z w64 c.args.a c.ranges.a) at c.has_product_from.ensures)
