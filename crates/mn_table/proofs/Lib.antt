@@ -1,3 +1,4 @@
+pub mod Choosing
 pub mod Keeping
 pub mod Looking
 pub mod Marking
