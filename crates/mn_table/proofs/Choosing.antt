@@ -4,10 +4,9 @@ use Rattle.std.proofs.lemmas.List.{length-append, length-map}
 use Rattle.std.proofs.lemmas.Map.Made.{length-le_from_is_member}
 use Rattle.std.specs.Bool.{Decides}
 use Rattle.std.specs.Cmp.{int_eq_equiv}
-use Rattle.std.specs.Cmp.Lexicographic.{lists_equiv, pointwise}
+use Rattle.std.specs.Cmp.Lexicographic.{lists_equiv}
 use Rattle.std.specs.Cmp.Rules.{signed_items}
 use Rattle.std.specs.List.{AllByRecursion, AllZip, IsDistinct, flat_map, list_any}
-use Rattle.std.specs.Ordering.{int_eq}
 use Rattle.std.specs.Set.{is_member}
 use Rattle.mn_model.specs.Decided.{Decided}
 use Rattle.mn_model.specs.Domain.{Has}
@@ -17,6 +16,7 @@ use Rattle.mn_meaning.specs.Choices.{choices}
 use Rattle.mn_meaning.specs.Families.{decide_member}
 use Rattle.mn_meaning.proofs.Assignments.{has_member, member_has}
 use Rattle.mn_meaning.proofs.MemberLemmas.{HoldsInOrder-flat_map, HoldsInOrder-weakened, flat_map_member, map_member, member_flat_map, of_members}
+use Rattle.mn_table.specs.Choosing.{row_eq}
 
 -- ---- how many
 
@@ -92,9 +92,6 @@ choices_distinct (xs ∷ sets) distinct =
     (HoldsInOrder-weakened (λ a b. a ≢ b) (λ a b. AllByRecursion (λ s. AllByRecursion (λ t. s ≢ t) (map (λ r. b ∷ r) (choices sets))) (map (λ r. a ∷ r) (choices sets))) (fronts_differ (choices sets)) xs distinct.0)
 
 -- ---- different tuples among others are at most as many
-
-abbrev row_eq : List ℤ → List ℤ → Bool
-row_eq = pointwise int_eq
 
 pub member_so : (rows : List (List ℤ)) (q : List ℤ) → is_member row_eq rows q ≡ true → HasMember rows q
 member_so [] q e = absurd (true≢false (sym e))

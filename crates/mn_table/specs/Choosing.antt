@@ -1,5 +1,8 @@
 -- How many choices of values there are, and how many of them a list of tuples has.
-use Rattle.std.specs.Prelude.{◌≡◌, ◌↔◌, ℕ, zero, suc, ◌*◌, ℤ, pos, ◌-ℤ◌, List, [], ◌∷◌, length, map}
+use Rattle.std.specs.Prelude.{◌≡◌, ◌↔◌, ℕ, ◌*◌, ℤ, pos, ◌-ℤ◌, Bool, List, [], ◌∷◌, length, map, Vec}
+use Rattle.std.specs.Cmp.Lexicographic.{pointwise}
+use Rattle.std.specs.Ordering.{int_eq}
+use Rattle.std.specs.declared.alloc.Global.{Global}
 use Rattle.mn_model.specs.Members.{AreDistinct, HasMember}
 use Rattle.mn_model.specs.Variable.{number_of}
 use Rattle.mn_model.specs.declared.constraint.Term.{Term}
@@ -7,6 +10,14 @@ use Rattle.mn_model.specs.declared.constraint.Term.TheVariants.{Var, Const, Not}
 use Rattle.mn_boxes.specs.Boxes.{set_of}
 use Rattle.mn_meaning.specs.Meaning.{at}
 use Rattle.mn_closure.specs.Supports.{Choice}
+
+-- two tuples are the same
+abbrev pub row_eq : List ℤ → List ℤ → Bool
+row_eq = pointwise int_eq
+
+-- tuples that are kept one by one
+abbrev pub rows_in : List (Vec ℤ Global) → List (List ℤ)
+rows_in rows = map (λ row. row.items) rows
 
 -- the values of a place
 abbrev pub place_values : List (List ℤ) → Term → List ℤ

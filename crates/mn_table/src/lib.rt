@@ -11,10 +11,12 @@
 //! `mn_meaning` and `mn_model`.
 #![tactic(auto)]
 
+mod forbidden;
 mod listed;
 mod marked;
 mod room;
 mod rows;
+mod sizes;
 mod table;
 
 pub use table::Table;
