@@ -95,20 +95,20 @@ choices_distinct (xs ∷ sets) distinct =
 
 pub member_so : (rows : List (List ℤ)) (q : List ℤ) → is_member row_eq rows q ≡ true → HasMember rows q
 member_so [] q e = absurd (true≢false (sym e))
-member_so (row ∷ rows) q e = by (row_eq q row) refl
+member_so (row ∷ rows) q e = by (λ more. member_so rows q more) (row_eq q row) refl
   where
-    by : (b : Bool) → row_eq q row ≡ b → HasMember (row ∷ rows) q
-    by true same = inl (sym ((signed_items q row).0 same))
-    by false other = inr (member_so rows q (subst (λ (b : Bool). (b || is_member row_eq rows q) ≡ true) other e))
+    by : (is_member row_eq rows q ≡ true → HasMember rows q) → (b : Bool) → row_eq q row ≡ b → HasMember (row ∷ rows) q
+    by later true same = inl (sym ((signed_items q row).0 same))
+    by later false other = inr (later (subst (λ (b : Bool). (b || is_member row_eq rows q) ≡ true) other e))
 
 pub so_member : (rows : List (List ℤ)) (q : List ℤ) → HasMember rows q → is_member row_eq rows q ≡ true
 so_member [] q has = absurd has
 so_member (row ∷ rows) q (inl same) = ap (λ (b : Bool). b || is_member row_eq rows q) ((signed_items q row).1 (sym same))
-so_member (row ∷ rows) q (inr has) = by (row_eq q row)
+so_member (row ∷ rows) q (inr has) = by (so_member rows q has) (row_eq q row)
   where
-    by : (b : Bool) → (b || is_member row_eq rows q) ≡ true
-    by true = refl
-    by false = so_member rows q has
+    by : is_member row_eq rows q ≡ true → (b : Bool) → (b || is_member row_eq rows q) ≡ true
+    by later true = refl
+    by later false = later
 
 not_same : (row q : List ℤ) → row ≢ q → row_eq row q ≡ false
 not_same row q differ = by (row_eq row q) refl

@@ -1,4 +1,5 @@
 pub mod Choosing
+pub mod Forbidding
 pub mod Keeping
 pub mod Looking
 pub mod Marking
