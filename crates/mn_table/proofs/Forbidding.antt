@@ -138,7 +138,7 @@ with_chosen box (u ∷ v) (suc i) t a (b ∷ q) stands there all = let more = wi
 -- ---- so it is told by numbers
 
 module _ (vars : List Variable) (box : List (List ℤ)) (v : List Term) (i : ℕ) (t : Term) (a : ℤ) (is : IsBox vars box) (stands : slice_get v i ≡ Some t) where
-  others : ℕ
+  abbrev others : ℕ
   others = product_of (sets_with box v i a)
 
   fewer_than_others : (n : ℕ) → n * place_size box t < choice_count box v → n < others
@@ -163,7 +163,7 @@ module _ (vars : List Variable) (box : List (List ℤ)) (v : List Term) (i : ℕ
     pub counted_free : (rows : List (List ℤ)) (n : ℕ) → CountsWith box v i a rows n → n * place_size box t < choice_count box v → FreeChoice rows
     counted_free rows n counts fewer =
         let free = free_choice counts.those (subst (λ k. k * place_size box t < choice_count box v) (sym counts.size) fewer) in
-        record { values = free.values; given = free.given; chosen = free.chosen; free = λ has. free.free ((counts.told free.values).1 (has, (free.given, free.chosen))) }
+        record { values = free.values; given = free.given; chosen = free.chosen; free = λ has. free.free ((counts.told free.values).1 (has, free.given, free.chosen)) }
 
     -- and where one is free they are fewer
     pub free_counted : (rows : List (List ℤ)) (n : ℕ) → CountsWith box v i a rows n → FreeChoice rows → n * place_size box t < choice_count box v
@@ -181,7 +181,7 @@ module _ (vars : List Variable) (box : List (List ℤ)) (v : List Term) (i : ℕ
 
         inside : (q : List ℤ) → HasMember (free.values ∷ counts.those) q → HasMember (choices (sets_with box v i a)) q
         inside q (inl same) = subst (HasMember (choices (sets_with box v i a))) same (choice_member (sets_with box v i a) free.values (chosen_with box v i a free.values free.given free.chosen))
-        inside q (inr has) = let told = (counts.told q).0 has in choice_member (sets_with box v i a) q (chosen_with box v i a q told.1.0 told.1.1)
+        inside q (inr has) = let told = (counts.told q).0 has in choice_member (sets_with box v i a) q (chosen_with box v i a q told.1 told.2)
 
         some : 0 < place_size box t
         some = subst (λ n. 0 < n) (size_is box t) (filled (place_values box t) (to_values box t a there))
