@@ -3,6 +3,7 @@ pub mod Forbidding
 pub mod Keeping
 pub mod Looking
 pub mod Marking
+pub mod Repeats
 pub mod Rooms
 pub mod Sifting
 pub mod Supporting

@@ -4,11 +4,11 @@ ghost use Rattle.std.proofs.Props.{props};
 ghost use Rattle.std.specs.List.{AllByRecursion};
 ghost use Rattle.std.specs.Set.{is_member};
 ghost use Rattle.mn_model.specs.Lawful.{SuitsTable};
-ghost use Rattle.mn_meaning.specs.Families.{rows_of};
 ghost use Rattle.mn_meaning.specs.Meaning.{tuples_of};
 ghost use Rattle.mn_table.specs.Choosing.{row_eq, rows_in};
 
 use crate::listed::cells_of;
+use crate::once::rows_once;
 use crate::rows::is_choice_with;
 use crate::sizes::{are_few, choices, size};
 use indexmap::IndexSet;
@@ -26,22 +26,6 @@ pub struct Forbidden<'a> {
     ghost some: { 1 ≤ length v.now },
     ghost level: { AllByRecursion (λ row. length row ≡ length v.now) (rows_in rows.keys) } by { Prim.hlevel props },
     ghost same: { (q : List ℤ) → is_member row_eq (rows_in rows.keys) q ≡ is_member row_eq (tuples_of inst.now.tuples tab.now) q } by { Prim.hlevel props },
-}
-
-// The tuples that cells make, each once.
-fn rows_once(alloc: Global, cells: &[i64], arity: usize) -> Result<IndexSet<Vec<i64>>, AllocError>
-    requires { 1 ≤ arity }
-    ensures level { IfOk result (λ rows. AllByRecursion (λ row. length row ≡ arity) (rows_in rows.keys)) }
-    ensures same { IfOk result (λ rows. (q : List ℤ) → is_member row_eq (rows_in rows.keys) q ≡ is_member row_eq (rows_of arity cells.now) q) }
-{
-    let mut rows = IndexSet::new(alloc);
-    let mut rest = cells;
-    while rest.len() >= arity {
-        let (row, others) = rest.split_at(arity);
-        rows.insert(Vec::from_slice(alloc, row)?)?;
-        rest = others;
-    }
-    Ok(rows)
 }
 
 impl<'a> Forbidden<'a> {

@@ -14,6 +14,7 @@
 mod forbidden;
 mod listed;
 mod marked;
+mod once;
 mod room;
 mod rows;
 mod sizes;
