@@ -19,6 +19,14 @@ pub(crate) fn size(c: &Ctx, t: Term) -> u64
     }
 }
 
+/// So many times so many.
+pub(crate) fn times(a: u64, b: u64) -> u128
+    ensures is { result ≡ a * b }
+    ensures small { result < 2 ^ 128 - 1 }
+{
+    a as u128 * b as u128
+}
+
 /// How many choices take one value from each place, as far as numbers go.
 pub(crate) fn choices(c: &Ctx, v: &[Term]) -> u128
     requires { AllByRecursion (IsNamed (vars_of c.now)) v.now }
@@ -32,13 +40,13 @@ pub(crate) fn choices(c: &Ctx, v: &[Term]) -> u128
 }
 
 /// Whether so many tuples are too few for any value: at each place they are fewer than the choices of the others.
-pub(crate) fn are_few(c: &Ctx, v: &[Term], rows: u64) -> bool
+pub(crate) fn are_few(c: &Ctx, v: &[Term], tuples: u64) -> bool
     requires { AllByRecursion (IsNamed (vars_of c.now)) v.now }
-    ensures { result ≡ true → AllByRecursion (λ t. rows * place_size (box_of c.now) t < choice_count (box_of c.now) v.now) v.now }
+    ensures { result ≡ true → AllByRecursion (λ t. tuples * place_size (box_of c.now) t < choice_count (box_of c.now) v.now) v.now }
 {
     let many = choices(c, v);
     for t in v {
-        if rows as u128 * size(c, *t) as u128 >= many {
+        if many <= times(tuples, size(c, *t)) {
             return false;
         }
     }
