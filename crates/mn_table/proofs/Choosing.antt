@@ -122,7 +122,7 @@ unfolding IsDistinct
 none_same [] distinct = tt
 none_same (row ∷ rows) distinct = (all_so (λ q. row ≢ q) (λ q. row_eq row q ≡ false) (not_same row) rows distinct.0, none_same rows distinct.1)
 
-differ_so : (row q : List ℤ) → row_eq row q ≡ false → row ≢ q
+pub differ_so : (row q : List ℤ) → row_eq row q ≡ false → row ≢ q
 differ_so row q other same = true≢false (sym ((signed_items row q).1 same) ∙ other)
 
 pub distinct_so : (rows : List (List ℤ)) → IsDistinct row_eq rows → AreDistinct rows

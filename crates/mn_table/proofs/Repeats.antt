@@ -1,14 +1,16 @@
 -- Tuples that are put into a set one after another.
-use Rattle.std.proofs.Common.{◌≡◌, ℕ, ◌≤◌, ℤ, Bool, true, false, ◌||◌, List, [], ◌∷◌, ◌++◌, length, map, take, drop, if◌then◌else◌, refl, sym, subst, ap, ◌∙◌, arith}
-use Rattle.std.proofs.lemmas.List.{map-append}
-use Rattle.std.specs.List.{AllByRecursion, list_any}
+use Rattle.std.proofs.Common.{◌≡◌, ◌≢◌, ℕ, zero, suc, ◌+◌, ◌<◌, ℤ, Bool, true, false, ◌||◌, List, [], ◌∷◌, ◌++◌, length, map, drop, get_or, if◌then◌else◌, refl, sym, subst, ap, ◌∙◌, arith}
+use Rattle.std.proofs.lemmas.List.{drop_more}
+use Rattle.std.specs.List.{AllByRecursion, IsDistinct, list_any}
 use Rattle.std.specs.Prelude.{Vec}
 use Rattle.std.specs.Set.{is_member}
 use Rattle.std.specs.Cmp.Rules.{signed_items}
 use Rattle.std.specs.declared.alloc.Global.{Global}
 use Rattle.indexmap.specs.IndexSet.{insert_key}
+use Rattle.mn_model.specs.Members.{AreDistinct}
 use Rattle.mn_model.proofs.Lists.{all_push}
 use Rattle.mn_table.specs.Choosing.{row_eq, rows_in}
+use Rattle.mn_table.proofs.Choosing.{differ_so}
 
 -- two tuples that are kept one by one are the same
 abbrev pub kept_eq : Vec ℤ Global → Vec ℤ Global → Bool
@@ -69,3 +71,30 @@ member_on rows row here next all q is so_far =
 -- none is left
 pub member_all : (rows : List (Vec ℤ Global)) (here all : List (List ℤ)) (q : List ℤ) → here ≡ [] → (is_member row_eq (rows_in rows) q || is_member row_eq here q) ≡ is_member row_eq all q → is_member row_eq (rows_in rows) q ≡ is_member row_eq all q
 member_all rows here all q end so_far = sym (or_false (is_member row_eq (rows_in rows) q)) ∙ subst (λ (h : List (List ℤ)). (is_member row_eq (rows_in rows) q || is_member row_eq h q) ≡ is_member row_eq all q) end so_far
+
+-- ---- looking at them one after another
+
+apart : (row : Vec ℤ Global) (rows : List (Vec ℤ Global)) → AllByRecursion (λ other. kept_eq row other ≡ false) rows → AllByRecursion (λ q. row.items ≢ q) (rows_in rows)
+apart row [] all = tt
+apart row (other ∷ rows) all = (differ_so row.items other.items all.0, apart row rows all.1)
+
+pub kept_distinct : (rows : List (Vec ℤ Global)) → IsDistinct kept_eq rows → AreDistinct (rows_in rows)
+unfolding IsDistinct
+kept_distinct [] distinct = tt
+kept_distinct (row ∷ rows) distinct = (apart row rows distinct.0, kept_distinct rows distinct.1)
+
+pub distinct_left : (n : ℕ) (rows : List (Vec ℤ Global)) → AreDistinct (rows_in rows) → AreDistinct (rows_in (drop n rows))
+distinct_left zero rows distinct = distinct
+distinct_left (suc n) [] distinct = tt
+distinct_left (suc n) (row ∷ rows) distinct = distinct_left n rows distinct.1
+
+pub rows_next : (rows : List (Vec ℤ Global)) (n : ℕ) (row : Vec ℤ Global) → n < length rows → row ≡ get_or rows n row → rows_in (drop n rows) ≡ row.items ∷ rows_in (drop (n + 1) rows)
+rows_next rows n row within is = ap rows_in (drop_more rows n row within) ∙ ap (λ (r : Vec ℤ Global). r.items ∷ rows_in (drop (n + 1) rows)) (sym is)
+
+all_left : (P : List ℤ → Type 0) (n : ℕ) (rows : List (Vec ℤ Global)) → AllByRecursion P (rows_in rows) → AllByRecursion P (rows_in (drop n rows))
+all_left P zero rows all = all
+all_left P (suc n) [] all = tt
+all_left P (suc n) (row ∷ rows) all = all_left P n rows all.1
+
+pub row_at : (P : List ℤ → Type 0) (rows : List (Vec ℤ Global)) (n : ℕ) (row : Vec ℤ Global) → n < length rows → row ≡ get_or rows n row → AllByRecursion P (rows_in rows) → P row.items
+row_at P rows n row within is all = (subst (AllByRecursion P) (rows_next rows n row within is) (all_left P n rows all)).0

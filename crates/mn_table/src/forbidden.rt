@@ -60,6 +60,7 @@ impl Forbidden<'_> {
         requires { IsReadyToRun (vars_of c.old) (forbidden_of self.now) }
         ensures { IsStep (Unsupported (forbidden_of self.now)) (ClosedUnderLeaf (vars_of c.old) (forbidden_of self.now)) c.old c.new result }
     {
+        c.lawful();
         if are_few(c, self.v.as_slice(), self.rows.len() as u64) {
             return Ok(());
         }
@@ -103,12 +104,13 @@ impl Scoped for Forbidden<'_> {
 
 impl SupportTest for Forbidden<'_> {
     fn supported(&self, c: &Ctx, i: usize, a: i64) -> bool {
+        c.lawful();
         let many = choices(c, self.v.as_slice());
         let here = size(c, *self.v.get(i)) as u128;
         if self.rows.len() as u128 * here < many {
             return true;
         }
-        (self.count(c, i, a) as u128) * here < many
+        self.count(c, i, a) as u128 * here < many
     }
 
     fn bare(&self) -> bool {

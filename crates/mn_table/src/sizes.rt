@@ -19,14 +19,6 @@ pub(crate) fn size(c: &Ctx, t: Term) -> u64
     }
 }
 
-/// So many times so many.
-pub(crate) fn times(a: u64, b: u64) -> u128
-    ensures is { result ≡ a * b }
-    ensures small { result < 2 ^ 128 - 1 }
-{
-    a as u128 * b as u128
-}
-
 /// How many choices take one value from each place, as far as numbers go.
 pub(crate) fn choices(c: &Ctx, v: &[Term]) -> u128
     requires { AllByRecursion (IsNamed (vars_of c.now)) v.now }
@@ -46,7 +38,7 @@ pub(crate) fn are_few(c: &Ctx, v: &[Term], tuples: u64) -> bool
 {
     let many = choices(c, v);
     for t in v {
-        if many <= times(tuples, size(c, *t)) {
+        if many <= tuples as u128 * size(c, *t) as u128 {
             return false;
         }
     }
