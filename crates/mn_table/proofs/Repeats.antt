@@ -1,6 +1,6 @@
 -- Tuples that are put into a set one after another.
 use Rattle.std.proofs.Common.{◌≡◌, ◌≢◌, ℕ, zero, suc, ◌+◌, ◌<◌, ℤ, Bool, true, false, ◌||◌, List, [], ◌∷◌, ◌++◌, length, map, drop, get_or, if◌then◌else◌, refl, sym, subst, ap, ◌∙◌, arith}
-use Rattle.std.proofs.lemmas.List.{drop_more}
+use Rattle.std.proofs.lemmas.List.{drop_more, length-map}
 use Rattle.std.specs.List.{AllByRecursion, IsDistinct, list_any}
 use Rattle.std.specs.Prelude.{Vec}
 use Rattle.std.specs.Set.{is_member}
@@ -98,3 +98,6 @@ all_left P (suc n) (row ∷ rows) all = all_left P n rows all.1
 
 pub row_at : (P : List ℤ → Type 0) (rows : List (Vec ℤ Global)) (n : ℕ) (row : Vec ℤ Global) → n < length rows → row ≡ get_or rows n row → AllByRecursion P (rows_in rows) → P row.items
 row_at P rows n row within is all = (subst (AllByRecursion P) (rows_next rows n row within is) (all_left P n rows all)).0
+
+pub as_many : (rows : List (Vec ℤ Global)) → length (rows_in rows) ≡ length rows
+as_many rows = length-map rows (λ (row : Vec ℤ Global). row.items)
