@@ -13,13 +13,14 @@ use Rattle.mn_model.specs.declared.constraint.Tab.{Tab}
 use Rattle.mn_model.specs.declared.constraint.Term.{Term}
 use Rattle.mn_model.specs.declared.constraint.Term.TheVariants.{Var, Const, Not}
 use Rattle.mn_model.specs.declared.declaration.Tuples.{Tuples}
-use Rattle.mn_model.proofs.Lists.{all_so}
+use Rattle.mn_model.proofs.Lists.{all_at, all_so}
 use Rattle.mn_boxes.specs.Boxes.{IsBox, set_of}
 use Rattle.mn_boxes.specs.Places.{PlaceHas}
 use Rattle.mn_boxes.specs.Sets.{Variable}
 use Rattle.mn_boxes.proofs.Quiet.{ascends_at}
 use Rattle.mn_meaning.specs.Choices.{choices}
 use Rattle.mn_meaning.specs.Meaning.{at, tuples_of}
+use Rattle.mn_closure.specs.Closed.{LeafClosed}
 use Rattle.mn_closure.specs.Supports.{Choice, Supported}
 use Rattle.mn_table.specs.Choosing.{CountsWith, choice_count, place_size, place_values, row_eq}
 use Rattle.mn_table.proofs.Choosing.{choice_member, choices_distinct, choices_length, fewer_lack, member_choice, member_so, no_more, product_of, so_member}
@@ -198,3 +199,15 @@ module _ (lists : List Tuples) (v : List Term) (tab : Tab) (rows box : List (Lis
 
   pub support_free : Supported lists (con.Negativetable v tab) i a box → FreeChoice vars box v i t a is stands rows
   support_free s = record { values = s.values; given = s.given; chosen = s.chosen; free = λ has. s.meets (member_so (tuples_of lists tab) s.values (sym (same s.values) ∙ so_member rows s.values has)) }
+
+-- where the tuples are too few at each place, nothing has to go
+pub few_close : (lists : List Tuples) (v : List Term) (tab : Tab) (rows box : List (List ℤ)) → ((q : List ℤ) → is_member row_eq rows q ≡ is_member row_eq (tuples_of lists tab) q) → (vars : List Variable) → IsBox vars box → 1 ≤ length v
+    → AllByRecursion (λ t. length rows * place_size box t < choice_count box v) v → LeafClosed vars lists (con.Negativetable v tab) box
+few_close lists v tab rows box same vars is some few = record {
+  bare = λ none. absurd (filled v some none);
+  supported = λ i t a stands asked. free_supports lists v tab rows box i t a same vars is stands (free_choice vars box v i t a is stands asked.there rows (all_at (λ u. length rows * place_size box u < choice_count box v) v i t few stands));
+}
+  where
+    filled : (v : List Term) → 1 ≤ length v → v ≡ [] → ⊥
+    filled [] some e = omega (arith, some)
+    filled (t ∷ v) some e = cc

@@ -1,6 +1,6 @@
 use Rattle.std.proofs.Common.{◌≡◌, ◌↔◌, ◌-◌, ◌*◌, ◌^◌, ◌<◌, ℕ, ℤ, IsTrue, List, length, min, refl, sym, subst, ap, ◌∙◌, w64, arith}
 use Rattle.std.proofs.lemmas.Int.{to_z-of_z}
-use Rattle.std.proofs.lemmas.Nat.{ltb-from, ltb-true}
+use Rattle.std.proofs.lemmas.Bool.{lt-ltb, ltb-true}
 use Rattle.std.specs.List.{AllByRecursion}
 use Rattle.mn_model.specs.declared.constraint.Term.{Term}
 use Rattle.mn_boxes.specs.Places.{PlaceHas}
@@ -23,7 +23,7 @@ returns-then-len-here c =
     let vars = vars_of c.args.c.now in
     let t = c.get.result.now in
     let rows = rows_in s.rows.keys in
-    let there : PlaceHas box t c.args.a = ? in
+    let there : PlaceHas box t c.args.a = c.requires.there t c.get.ensures in
     let many = subst (λ (ts : List Term). c.choices-many.result ≡ min (choice_count box ts) (2 ^ 128 - 1)) c.as_slice.ensures c.choices-many.ensures in
     let small = times_small c.len.result c.size-here.result c.len.type_inv c.size-here.type_inv in
     let less = (less_capped (c.len.result * c.size-here.result) c.choices-many.result (choice_count box s.v.now) (2 ^ 128 - 1) small many).0 c.if-len-here.true in
@@ -38,8 +38,7 @@ returns c =
     let vars = vars_of c.args.c.now in
     let t = c.get.result.now in
     let rows = rows_in s.rows.keys in
-    let x = c.requires.there in
-    let there : PlaceHas box t c.args.a = ? in
+    let there : PlaceHas box t c.args.a = c.requires.there t c.get.ensures in
     let many = subst (λ (ts : List Term). c.choices-many.result ≡ min (choice_count box ts) (2 ^ 128 - 1)) c.as_slice.ensures c.choices-many.ensures in
     let small = times_small c.count.result c.size-here.result c.count.type_inv c.size-here.type_inv in
     let less = less_capped (c.count.result * c.size-here.result) c.choices-many.result (choice_count box s.v.now) (2 ^ 128 - 1) small many in
@@ -47,7 +46,7 @@ returns c =
       λ e. free_supports s.inst.now.tuples s.v.now s.tab.now rows box c.args.i t c.args.a s.same vars c.lawful.ensures.boxes.now c.get.ensures
       (counted_free vars box s.v.now c.args.i t c.args.a c.lawful.ensures.boxes.now c.get.ensures there rows c.count.result counts
       (subst (λ n. c.count.result * n < choice_count box s.v.now) c.size-here.ensures (less.0 (ltb-true (c.count.result * c.size-here.result) c.choices-many.result e)))),
-      λ supported. ltb-from (c.count.result * c.size-here.result) c.choices-many.result
+      λ supported. lt-ltb (c.count.result * c.size-here.result) c.choices-many.result
       (less.1 (subst (λ n. c.count.result * n < choice_count box s.v.now) (sym c.size-here.ensures)
       (free_counted vars box s.v.now c.args.i t c.args.a c.lawful.ensures.boxes.now c.get.ensures there rows c.count.result counts
       (support_free s.inst.now.tuples s.v.now s.tab.now rows box c.args.i t c.args.a s.same vars c.lawful.ensures.boxes.now c.get.ensures supported)))),
