@@ -1,16 +1,15 @@
 -- The choices of one value from each of several sets: how many there are, and that a list with fewer tuples lacks one.
-use Rattle.std.proofs.Common.{◌≡◌, ◌≢◌, ◌↔◌, ℕ, zero, suc, ◌+◌, ◌*◌, ◌<◌, ◌≤◌, ℤ, ◌⊎◌, inl, inr, Bool, true, false, ◌||◌, List, [], ◌∷◌, ◌++◌, length, map, refl, sym, subst, ap, ◌∙◌, arith, true≢false}
+use Rattle.std.proofs.Common.{◌≡◌, ◌≢◌, ℕ, ◌*◌, ◌<◌, ◌≤◌, ℤ, ◌⊎◌, inl, inr, Bool, true, false, ◌||◌, List, [], ◌∷◌, length, map, refl, sym, subst, ap, ◌∙◌, arith, true≢false}
 use Rattle.std.proofs.lemmas.List.{length-append, length-map}
 use Rattle.std.proofs.lemmas.Map.Made.{length-le_from_is_member}
-use Rattle.std.specs.Bool.{Decides}
 use Rattle.std.specs.Cmp.{int_eq_equiv}
 use Rattle.std.specs.Cmp.Lexicographic.{lists_equiv}
 use Rattle.std.specs.Cmp.Rules.{signed_items}
-use Rattle.std.specs.List.{AllByRecursion, AllZip, IsDistinct, flat_map, list_any}
+use Rattle.std.specs.List.{AllByRecursion, AllZip, IsDistinct, flat_map}
 use Rattle.std.specs.Set.{is_member}
 use Rattle.mn_model.specs.Decided.{Decided}
 use Rattle.mn_model.specs.Domain.{Has}
-use Rattle.mn_model.specs.Members.{AreDistinct, HasMember, HoldsInOrder}
+use Rattle.mn_model.specs.Members.{AreDistinct, HasMember}
 use Rattle.mn_model.proofs.Lists.{all_map, all_so}
 use Rattle.mn_meaning.specs.Choices.{choices}
 use Rattle.mn_meaning.specs.Families.{decide_member}
@@ -80,10 +79,10 @@ fronts_differ : (rows : List (List ℤ)) (a b : ℤ) → a ≢ b → AllByRecurs
 fronts_differ rows a b differ =
     of_members (λ s. AllByRecursion (λ t. s ≢ t) (map (λ r. b ∷ r) rows)) (map (λ r. a ∷ r) rows) (λ s here.
     of_members (λ t. s ≢ t) (map (λ r. b ∷ r) rows) (λ t there same. (
-        let one = from_front a rows s here in
-        let another = from_front b rows t there in
-        differ (heads a b one.behind another.behind (one.same ∙ (same ∙ sym another.same)))
-        )))
+    let one = from_front a rows s here in
+    let another = from_front b rows t there in
+    differ (heads a b one.behind another.behind (one.same ∙ (same ∙ sym another.same)))
+    )))
 
 pub choices_distinct : (sets : List (List ℤ)) → AllByRecursion AreDistinct sets → AreDistinct (choices sets)
 choices_distinct [] distinct = (tt, tt)

@@ -1,6 +1,5 @@
 -- Tuples that are counted one after another.
-use Rattle.std.proofs.Common.{◌≡◌, ◌≢◌, ◌↔◌, ℕ, ◌+◌, ℤ, ◌⊎◌, inl, inr, List, [], ◌∷◌, length, refl, sym, subst, ap, arith}
-use Rattle.std.specs.List.{AllByRecursion}
+use Rattle.std.proofs.Common.{◌≡◌, ◌≢◌, ℕ, ◌+◌, ℤ, inl, inr, List, [], ◌∷◌, refl, sym, subst, arith}
 use Rattle.mn_model.specs.Members.{AreDistinct, HasMember}
 use Rattle.mn_model.specs.declared.constraint.Term.{Term}
 use Rattle.mn_meaning.specs.Meaning.{at}

@@ -35,9 +35,7 @@ impl<'a> Table<'a> {
     {
         match con {
             Con::Table(v, tab) => Table::narrowing(alloc, Listed::of(inst, v, tab)),
-            Con::Negativetable(v, tab) => {
-                Ok(Table::NoneOf(Forbidden::of(alloc, inst, v, tab)?))
-            }
+            Con::Negativetable(v, tab) => { Ok(Table::NoneOf(Forbidden::of(alloc, inst, v, tab)?)) }
             _ => unreachable!(),
         }
     }

@@ -1,7 +1,6 @@
-use Rattle.std.proofs.Common.{◌≡◌, ◌+◌, ◌*◌, ◌<◌, ℕ, List, [], drop, true, sym, subst, ap, ◌∙◌, arith, true≢false}
+use Rattle.std.proofs.Common.{◌*◌, ◌<◌, sym, subst, arith}
 use Rattle.std.proofs.lemmas.List.{drop_all, drop_more}
 use Rattle.std.specs.List.{AllByRecursion}
-use Rattle.mn_model.specs.declared.constraint.Term.{Term}
 use Rattle.mn_prop.specs.Contexts.{box_of}
 use Rattle.mn_table.specs.Choosing.{choice_count, place_size}
 use Rattle.mn_table.proofs.sizes.are_few.Goals as goal

@@ -1,4 +1,4 @@
-use Rattle.std.proofs.Common.{◌≡◌, ◌↔◌, ◌+◌, ◌≤◌, ℤ, IsTrue, List, drop, length, of_z, to_z, sym, subst, ap, ◌∙◌, true≢false, w64, arith}
+use Rattle.std.proofs.Common.{◌≡◌, ◌↔◌, ◌+◌, ℤ, IsTrue, List, drop, length, of_z, to_z, sym, subst, ap, ◌∙◌, true≢false, w64, arith}
 use Rattle.std.proofs.lemmas.Int.{to_z-of_z}
 use Rattle.std.proofs.lemmas.List.{drop_all}
 use Rattle.std.specs.List.{AllByRecursion}
@@ -42,7 +42,7 @@ loop-r-preserved c =
     let distinct = subst (λ (rs : List (Vec ℤ Global)). AreDistinct (rows_in rs)) (sym c.as_slice-rows.ensures.keys) (kept_distinct s.rows.keys c.as_slice-rows.ensures.unique) in
     let next = rows_next rows c.loop-r.r row c.loop-r-test.true c.index-rows-r.is in
     let told = subst (λ (q : List ℤ). IsTrue c.is_choice_with.result ↔ ((at q c.args.i ≡ a) × Choice box s.v.now q)) c.as_slice-in-loop-r.ensures.value
-        (subst (λ (ts : List Term). IsTrue c.is_choice_with.result ↔ ((at c.as_slice-in-loop-r.result.now c.args.i ≡ a) × Choice box ts c.as_slice-in-loop-r.result.now)) c.as_slice.ensures c.is_choice_with.ensures) in
+    (subst (λ (ts : List Term). IsTrue c.is_choice_with.result ↔ ((at c.as_slice-in-loop-r.result.now c.args.i ≡ a) × Choice box ts c.as_slice-in-loop-r.result.now)) c.as_slice.ensures c.is_choice_with.ensures) in
     elim c.if-is_choice_with.branch [
       | then-is_choice_with w ↦
           let both = told.0 w.if-is_choice_with.true in

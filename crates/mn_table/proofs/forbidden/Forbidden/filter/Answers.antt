@@ -1,4 +1,4 @@
-use Rattle.std.proofs.Common.{◌≡◌, ◌*◌, ◌<◌, ℕ, List, length, sym, subst, ap, ◌∙◌}
+use Rattle.std.proofs.Common.{◌*◌, ◌<◌, List, sym, subst, ◌∙◌}
 use Rattle.std.specs.List.{AllByRecursion}
 use Rattle.mn_model.specs.declared.constraint.Term.{Term}
 use Rattle.mn_prop.specs.Contexts.{IsNamed, box_of, vars_of}

@@ -1,8 +1,7 @@
-use Rattle.std.proofs.Common.{◌≡◌, ℕ, ℤ, List, length, sym, subst, ap, ◌∙◌}
+use Rattle.std.proofs.Common.{◌≡◌, ℤ, List, length, sym, subst, ap, ◌∙◌}
 use Rattle.std.specs.List.{AllByRecursion}
 use Rattle.std.specs.Set.{is_member}
 use Rattle.mn_meaning.specs.Families.{rows_of}
-use Rattle.mn_meaning.specs.Meaning.{tuples_of}
 use Rattle.mn_table.specs.Choosing.{row_eq, rows_in}
 use Rattle.mn_table.proofs.forbidden.Forbidden.of.Goals as goal
 

@@ -1,11 +1,11 @@
-use Rattle.std.proofs.Common.{◌≡◌, ◌↔◌, ◌-◌, ◌*◌, ◌^◌, ◌<◌, ℕ, ℤ, IsTrue, List, length, min, refl, sym, subst, ap, ◌∙◌, w64, arith}
+use Rattle.std.proofs.Common.{◌≡◌, ◌-◌, ◌*◌, ◌^◌, ◌<◌, ℤ, List, length, min, refl, sym, subst, ap, ◌∙◌, w64}
 use Rattle.std.proofs.lemmas.Int.{to_z-of_z}
 use Rattle.std.proofs.lemmas.Bool.{lt-ltb, ltb-true}
 use Rattle.std.specs.List.{AllByRecursion}
 use Rattle.mn_model.specs.declared.constraint.Term.{Term}
 use Rattle.mn_boxes.specs.Places.{PlaceHas}
 use Rattle.mn_prop.specs.Contexts.{IsNamed, box_of, vars_of}
-use Rattle.mn_table.specs.Choosing.{CountsWith, choice_count, place_size, rows_in}
+use Rattle.mn_table.specs.Choosing.{CountsWith, choice_count, rows_in}
 use Rattle.mn_table.proofs.Forbidding.{counted_free, free_choice, free_counted, free_supports, support_free}
 use Rattle.mn_table.proofs.Multiplied.{less_capped, times_small}
 use Rattle.mn_table.proofs.Repeats.{as_many}
@@ -44,10 +44,10 @@ returns c =
     let less = less_capped (c.count.result * c.size-here.result) c.choices-many.result (choice_count box s.v.now) (2 ^ 128 - 1) small many in
     let counts = subst (λ (b : ℤ). CountsWith box s.v.now c.args.i b rows c.count.result) (to_z-of_z w64 c.args.a c.ranges.a) c.count.ensures.counts in (
       λ e. free_supports s.inst.now.tuples s.v.now s.tab.now rows box c.args.i t c.args.a s.same vars c.lawful.ensures.boxes.now c.get.ensures
-      (counted_free vars box s.v.now c.args.i t c.args.a c.lawful.ensures.boxes.now c.get.ensures there rows c.count.result counts
-      (subst (λ n. c.count.result * n < choice_count box s.v.now) c.size-here.ensures (less.0 (ltb-true (c.count.result * c.size-here.result) c.choices-many.result e)))),
+          (counted_free vars box s.v.now c.args.i t c.args.a c.lawful.ensures.boxes.now c.get.ensures there rows c.count.result counts
+          (subst (λ n. c.count.result * n < choice_count box s.v.now) c.size-here.ensures (less.0 (ltb-true (c.count.result * c.size-here.result) c.choices-many.result e)))),
       λ supported. lt-ltb (c.count.result * c.size-here.result) c.choices-many.result
-      (less.1 (subst (λ n. c.count.result * n < choice_count box s.v.now) (sym c.size-here.ensures)
-      (free_counted vars box s.v.now c.args.i t c.args.a c.lawful.ensures.boxes.now c.get.ensures there rows c.count.result counts
-      (support_free s.inst.now.tuples s.v.now s.tab.now rows box c.args.i t c.args.a s.same vars c.lawful.ensures.boxes.now c.get.ensures supported)))),
+          (less.1 (subst (λ n. c.count.result * n < choice_count box s.v.now) (sym c.size-here.ensures)
+          (free_counted vars box s.v.now c.args.i t c.args.a c.lawful.ensures.boxes.now c.get.ensures there rows c.count.result counts
+          (support_free s.inst.now.tuples s.v.now s.tab.now rows box c.args.i t c.args.a s.same vars c.lawful.ensures.boxes.now c.get.ensures supported)))),
     )
