@@ -31,6 +31,7 @@ is_basic (con.Modulo x y z) = false
 is_basic (con.Max v x) = false
 is_basic (con.Min v x) = false
 is_basic (con.Table v tab) = false
+is_basic (con.Negativetable v tab) = false
 is_basic (con.Occurrence v k x) = false
 is_basic (con.Occurrenceleq v k k2) = false
 is_basic (con.Occurrencegeq v k k2) = false

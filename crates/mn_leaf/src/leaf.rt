@@ -71,7 +71,9 @@ impl<'a> Leaf<'a> {
             Con::Lexleq(_, _) | Con::Lexless(_, _) | Con::Watchvecneq(_, _) => {
                 Ok(Leaf::Lex(LexCon::build(inst, con)))
             }
-            Con::Table(_, _) => Ok(Leaf::Table(Table::build(alloc, inst, con)?)),
+            Con::Table(_, _) | Con::Negativetable(_, _) => {
+                Ok(Leaf::Table(Table::build(alloc, inst, con)?))
+            }
             _ => Ok(Leaf::Basic(Basic::build(alloc, inst, con)?)),
         }
     }

@@ -1,6 +1,11 @@
+pub mod Choosing
+pub mod Counted
+pub mod Forbidding
 pub mod Keeping
 pub mod Looking
 pub mod Marking
+pub mod Multiplied
+pub mod Repeats
 pub mod Rooms
 pub mod Sifting
 pub mod Supporting

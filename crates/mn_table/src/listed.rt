@@ -20,8 +20,8 @@ pub struct Listed<'a> {
     ghost rows: { tuples_of inst.now.tuples tab.now ≡ rows_of (length v.now) cells.now },
 }
 
-// The numbers of the tuples of a table that suits the vector.
-fn cells_of<'a>(inst: &'a Instance, v: &Terms, tab: &'a Tab) -> &'a [i64]
+/// The numbers of the tuples of a table that suits the vector.
+pub(crate) fn cells_of<'a>(inst: &'a Instance, v: &Terms, tab: &'a Tab) -> &'a [i64]
     requires { SuitsTable inst.now.tuples (length v.now, tab.now) }
     ensures { tuples_of inst.now.tuples tab.now ≡ rows_of (length v.now) result.now }
 {

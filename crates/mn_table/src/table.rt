@@ -8,19 +8,22 @@ ghost use Rattle.mn_prop.specs.Passes.{IsStep};
 ghost use Rattle.mn_prop.specs.Posts.{ClosedUnderLeaf, IsReadyToRun, beside};
 ghost use Rattle.mn_table.specs.Tables.{IsOfTuples, listed_of, posted_of};
 
+use crate::forbidden::Forbidden;
 use crate::listed::Listed;
 use crate::marked::Marked;
 use mn_model::{Con, Instance, Term};
 use mn_prop::{Ctx, Fail, Runner, Scoped};
 use std::alloc::{AllocError, Global};
 
-/// The values of a vector are one of the tuples of a table.
+/// The values of a vector are one of the tuples of a table, or none of them.
 #[derive(Drop)]
 pub enum Table<'a> {
     /// The values of the tuples are gathered in a set.
     ByMarks(Marked<'a>),
     /// Values are tried one by one, where those of the tuples span too much for a set.
     ByValue(Listed<'a>),
+    /// The tuples are forbidden.
+    NoneOf(Forbidden<'a>),
 }
 
 impl<'a> Table<'a> {
@@ -32,6 +35,7 @@ impl<'a> Table<'a> {
     {
         match con {
             Con::Table(v, tab) => Table::narrowing(alloc, Listed::of(inst, v, tab)),
+            Con::Negativetable(v, tab) => { Ok(Table::NoneOf(Forbidden::of(alloc, inst, v, tab)?)) }
             _ => unreachable!(),
         }
     }
@@ -57,6 +61,7 @@ impl Table<'_> {
         match self {
             Table::ByMarks(m) => m.filter(c),
             Table::ByValue(l) => l.filter(c),
+            Table::NoneOf(f) => f.filter(c),
         }
     }
 }
@@ -70,6 +75,7 @@ impl Scoped for Table<'_> {
         match self {
             Table::ByMarks(m) => m.of.places(),
             Table::ByValue(l) => l.places(),
+            Table::NoneOf(f) => f.places(),
         }
     }
 
@@ -77,6 +83,7 @@ impl Scoped for Table<'_> {
         match self {
             Table::ByMarks(m) => m.of.term(i),
             Table::ByValue(l) => l.term(i),
+            Table::NoneOf(f) => f.term(i),
         }
     }
 }
