@@ -5,6 +5,7 @@ pub mod Entries
 pub mod Occurring
 pub mod Spread
 pub mod Tallies
+pub mod Whole
 pub mod Tightening
 pub mod Collected
 pub mod Rounding

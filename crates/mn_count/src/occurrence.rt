@@ -1,6 +1,10 @@
 //! How often a value stands: `occurrence`, `occurrenceleq` and `occurrencegeq`.
-ghost use Rattle.std.specs.Prelude.{◌≡◌, OnOk};
-ghost use Rattle.mn_prop.specs.Contexts.{box_of, vars_of};
+ghost use Rattle.std.specs.Prelude.{◌≡◌, ◌↔◌, ◌<◌, IsTrue, OnOk, length};
+ghost use Rattle.mn_boxes.specs.Boxes.{set_of};
+ghost use Rattle.mn_boxes.specs.Places.{PlaceHas};
+ghost use Rattle.mn_model.specs.Domain.{Has};
+ghost use Rattle.mn_model.specs.Variable.{number_of};
+ghost use Rattle.mn_prop.specs.Contexts.{IsNamed, box_of, vars_of};
 ghost use Rattle.mn_prop.specs.Footings.{no_footing};
 ghost use Rattle.mn_prop.specs.Losses.{Unsupported};
 ghost use Rattle.mn_prop.specs.Passes.{IsStep, Narrows};
@@ -9,7 +13,7 @@ ghost use Rattle.mn_count.specs.declared.occurrence.Amount.TheVariants.{AtLeast,
 ghost use Rattle.mn_count.specs.Occurrences.{AllDropped, AllKept, IsFull, IsShort, IsTally, con_of};
 
 use crate::changes::drop_value;
-use mn_model::{Instance, Term, Terms};
+use mn_model::{Instance, Term, Terms, VarId};
 use mn_prop::{Ctx, Fail, Scoped};
 
 /// How often the value may stand.
@@ -37,6 +41,34 @@ pub struct Occurrence<'a> {
 pub(crate) struct Tally {
     must: i64,
     may: i64,
+}
+
+// Whether the value is at the place.
+fn stands_at(c: &Ctx, t: Term, k: i64) -> bool
+    requires { IsNamed (vars_of c.now) t }
+    ensures { IsTrue result ↔ PlaceHas (box_of c.now) t k }
+{
+    match t {
+        Term::Var(v) => is_in(c, v, k),
+        Term::Const(_) | Term::Not(_) => c.has(t, k),
+    }
+}
+
+// Whether the variable has the value. Where no value is missing between its ends, they tell it.
+fn is_in(c: &Ctx, v: VarId, k: i64) -> bool
+    requires { number_of v < length (vars_of c.now) }
+    ensures { IsTrue result ↔ Has (set_of (box_of c.now) (number_of v)) k }
+{
+    c.lawful();
+    let lo = c.lo(Term::Var(v));
+    let hi = c.hi(Term::Var(v));
+    if k < lo || hi < k {
+        return false;
+    }
+    if hi.abs_diff(lo) < c.doms().size(v) {
+        return true;
+    }
+    c.doms().has(v, k)
 }
 
 impl<'a> Occurrence<'a> {
@@ -72,7 +104,7 @@ impl<'a> Occurrence<'a> {
         let mut may = 0;
         for i in 0..self.v.len() {
             let t = *self.v.get(i);
-            if !c.has(t, self.k) {
+            if !stands_at(c, t, self.k) {
                 continue;
             }
             may += 1;
